@@ -1,0 +1,26 @@
+-- What a reader must believe, in the paper's order.
+-- Messages:
+pub mod Term
+pub mod Carry
+pub mod Subst
+-- The bench sheet:
+pub mod Limits
+pub mod Lists
+pub mod Table
+pub mod Skeleton
+pub mod Sheet
+pub mod Reading
+-- Derivability, the skeleton rules, and when the bench refuses:
+pub mod Derive
+pub mod Events
+pub mod Accepting
+pub mod Judging
+-- Strand maps:
+pub mod Rising
+pub mod Maps
+-- The questions, the answers as the code gives them, and the bench's lines:
+pub mod Answers
+pub mod Says
+pub mod Lines
+-- Laws that hold the definitions in their place.
+pub mod Laws

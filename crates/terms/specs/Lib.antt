@@ -1,0 +1,2 @@
+-- What the contracts of `terms` cite.
+pub mod Set
