@@ -1,5 +1,5 @@
--- Refusals 9 to 14, "Each is given exactly then", with place and skeleton number, in the paper's order: "After EN: 8, 9, then skeleton
--- by skeleton: 10; NO atoms by rising term number, 14 or 11; UO atoms likewise, 12 then 13."
+-- Refusals 9 to 14, "Each is given exactly then", with place and skeleton number, in the paper's order: "After EN: 8,
+-- 9, then skeleton by skeleton: 10; NO atoms by rising term number, 14 or 11; UO atoms likewise, 12 then 13."
 use mathlib.Core.Path.{_≡_}
 use mathlib.Core.Bool.{true}
 use mathlib.Core.List.{List, List·Memᴰ}

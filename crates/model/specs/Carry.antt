@@ -1,6 +1,6 @@
--- "Carrying (001): every term carries itself; a pair carries what either half carries; an encryption carries what its body carries, and
--- its key only if the body does. Hashes and atoms carry nothing further. Occurring goes into every part: bodies, keys, what is hashed,
--- and the key or names inside an atom."
+-- "Carrying (001): every term carries itself; a pair carries what either half carries; an encryption carries what its
+-- body carries, and its key only if the body does. Hashes and atoms carry nothing further. Occurring goes into every
+-- part: bodies, keys, what is hashed, and the key or names inside an atom."
 use mathlib.Core.Bool.{Bool, true, false}
 use mathlib.Core.Logic.{_⊎_}
 use Prim.Native.Nat.{ℕ}
@@ -29,8 +29,9 @@ pub data Occurs (t : Term) : Term → Type 0 where
   hashed : {u : Term} → Occurs t u → Occurs t (hash u)
   inside : {a b : Atom} → Inside a b → Occurs t (atom a) → Occurs t (atom b)
 
--- "A term t is carried only within a set S in t' when each carrying path from t' down to t passes a member of S strictly above its last
--- place. If t' doesn't carry t, the answer is yes. Membership of t itself in S protects nothing."
+-- "A term t is carried only within a set S in t' when each carrying path from t' down to t passes a member of S
+-- strictly above its last place. If t' doesn't carry t, the answer is yes. Membership of t itself in S protects
+-- nothing."
 module _ (S : Term → Type 0) where
   -- the path passes a member of the set strictly above its last place
   unfoldable pub Passes : {t u : Term} → Carries t u → Type 0

@@ -1,6 +1,6 @@
--- "Derivable terms are the least set that holds the earlier messages, all tags, all message variables and all atoms not withheld, and
--- is closed under pairing, splitting, encrypting, hashing, and decrypting with the inverse of the key. The set ranges over all terms,
--- also those on no sheet. Figure 9.1 and rules 9.1 to 9.3 decide."
+-- "Derivable terms are the least set that holds the earlier messages, all tags, all message variables and all atoms not
+-- withheld, and is closed under pairing, splitting, encrypting, hashing, and decrypting with the inverse of the key.
+-- The set ranges over all terms, also those on no sheet. Figure 9.1 and rules 9.1 to 9.3 decide."
 use Prim.Native.Nat.{ℕ}
 use Rattle.model.specs.Term.{Atom, Term, tag, mesg, atom, pair, enc, hash, inv}
 

@@ -1,5 +1,6 @@
--- "Precedence is the transitive closure of strand succession and the OR pairs, which run from a send to a reception. It has no cycle. An
--- atom originates on a strand if some event there carries it and the first that does is a send; that node is its origin."
+-- "Precedence is the transitive closure of strand succession and the OR pairs, which run from a send to a reception. It
+-- has no cycle. An atom originates on a strand if some event there carries it and the first that does is a send; that
+-- node is its origin."
 use mathlib.Core.Logic.{_⊎_}
 use mathlib.Core.List.{List·Memᴰ}
 use Prim.Native.Nat.{ℕ, suc, _<_}

@@ -24,3 +24,5 @@ pub mod Says
 pub mod Lines
 -- Laws that hold the definitions in their place.
 pub mod Laws
+pub mod SkeletonLaws
+pub mod ReadingLaws

@@ -1,15 +1,16 @@
--- What the bench program writes, as bytes. "It writes exactly: .. Each map is a line, its numbers parted by one space; no maps line for one
--- skeleton; `maps 0 to 1 refused 16` for room; a bad sheet gives only `sheet refused N place P skeleton K`."
-use mathlib.Core.Path.{_≡_}
+-- What the bench program writes, as bytes. "It writes exactly: .. Each map is a line, its numbers parted by one space;
+-- no maps line for one skeleton; `maps 0 to 1 refused 16` for room; a bad sheet gives only `sheet refused N place P
+-- skeleton K`."
+use mathlib.Core.Path.{_≡_, refl}
 use mathlib.Core.Bool.{Bool, true, false, cond}
 use mathlib.Core.List.{List, [], _∷_, _++_}
-use Prim.Native.Nat.{ℕ, zero, suc, _+_, _/_, _%_}
-use Prim.Native.Char.{Char, code}
+use Prim.Native.Nat.{ℕ, zero, suc, _+_, _/_, _%_, _≤_, _<_}
+use native.Mathlib.Omega.{arith}
+use borrow.Author.Tests.{ltb-false}
+use Prim.Native.Char.{code}
 use Prim.Native.String.{String}
 use Prim.Native.String as String
 use lib.Dec.{ltb}
-use Rattle.model.specs.Skeleton.{Node}
-use Rattle.model.specs.Sheet.{Refusal}
 use Rattle.model.specs.Answers.{Answer, refused, answered, Counts, Openness, realized, open-at}
 
 -- the bytes of an ASCII text
@@ -25,3 +26,60 @@ digits (suc n) x = cond (ltb x 10) ((48 + x) ∷ []) (digits n (x / 10) ++ ((48 
 unfoldable pub decimal : ℕ → List ℕ
 unfolding digits
 decimal x = digits (suc x) x
+
+-- the law of decimal: digit by digit
+enough : (n m x : ℕ) → x < n → x < m → digits n x ≡ digits m x
+unfolding digits
+enough zero m x h k = absurd (omega arith)
+enough (suc n) zero x h k = absurd (omega arith)
+enough (suc n) (suc m) x h k = go (ltb x 10) refl (λ l. enough n m (x / 10) (omega arith) (omega arith))
+  where
+    go : (b : Bool) → ltb x 10 ≡ b → (10 ≤ x → digits n (x / 10) ≡ digits m (x / 10))
+        → cond b ((48 + x) ∷ []) (digits n (x / 10) ++ ((48 + x % 10) ∷ [])) ≡ cond b ((48 + x) ∷ []) (digits m (x / 10) ++ ((48 + x % 10) ∷ []))
+    go true e f = refl
+    go false e f = rw (f (ltb-false x 10 e))
+
+pub decimal-law : (x : ℕ) → decimal x ≡ cond (ltb x 10) ((48 + x) ∷ []) (decimal (x / 10) ++ ((48 + x % 10) ∷ []))
+unfolding decimal digits
+decimal-law x = go (ltb x 10) refl
+  where
+    go : (b : Bool) → ltb x 10 ≡ b
+        → cond b ((48 + x) ∷ []) (digits x (x / 10) ++ ((48 + x % 10) ∷ [])) ≡ cond b ((48 + x) ∷ []) (digits (suc (x / 10)) (x / 10) ++ ((48 + x % 10) ∷ []))
+    go true e = refl
+    go false e =
+        let big : 10 ≤ x = ltb-false x 10 e in
+        rw (enough x (suc (x / 10)) (x / 10) (omega arith) (omega arith))
+
+-- "sheet good terms 9 skeletons 2"; "sheet refused N place P skeleton K"
+unfoldable pub sheet-line : Answer Counts → List ℕ
+unfolding ascii decimal
+sheet-line (answered c) = ascii "sheet good terms " ++ decimal (c .terms) ++ ascii " skeletons " ++ decimal (c .skeletons) ++ ascii "\n"
+sheet-line (refused r) =
+    ascii "sheet refused " ++ decimal (r .number) ++ ascii " place " ++ decimal (r .place) ++ ascii " skeleton " ++ decimal (r .skeleton) ++ ascii "\n"
+
+-- "skeleton 0 open at 0 1"; "skeleton 1 realized"
+unfoldable pub skeleton-line : ℕ → Openness → List ℕ
+unfolding ascii decimal
+skeleton-line k realized = ascii "skeleton " ++ decimal k ++ ascii " realized\n"
+skeleton-line k (open-at n) =
+    ascii "skeleton " ++ decimal k ++ ascii " open at " ++ decimal (n .strand) ++ ascii " " ++ decimal (n .position) ++ ascii "\n"
+
+-- "maps 0 to 1: 1"; "maps 0 to 1 refused 16"
+unfoldable pub maps-line : ℕ → ℕ → Answer ℕ → List ℕ
+unfolding ascii decimal
+maps-line source target (answered count) =
+    ascii "maps " ++ decimal source ++ ascii " to " ++ decimal target ++ ascii ": " ++ decimal count ++ ascii "\n"
+maps-line source target (refused r) =
+    ascii "maps " ++ decimal source ++ ascii " to " ++ decimal target ++ ascii " refused " ++ decimal (r .number) ++ ascii "\n"
+
+-- "Each map is a line, its numbers parted by one space"
+unfoldable pub map-line : List ℕ → List ℕ
+unfolding ascii decimal
+map-line [] = ascii "\n"
+map-line (x ∷ []) = decimal x ++ ascii "\n"
+map-line (x ∷ y ∷ l) = decimal x ++ ascii " " ++ map-line (y ∷ l)
+
+-- the sheet line of the paper's example, spelled out
+example-line : sheet-line (answered (record { terms = 9; skeletons = 2 })) ≡ ascii "sheet good terms 9 skeletons 2\n"
+unfolding sheet-line
+example-line = refl

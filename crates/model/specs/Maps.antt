@@ -1,7 +1,7 @@
--- "Rules in order: (1) one byte per source strand, each a target strand; (2) target height at least the source's, equal directions at
--- equal positions; (3) some sort-keeping substitution takes each source message to the message at the mapped node; (4) precedence is
--- kept; (5) images of NO atoms are NO atoms; (6) images of UO atoms are UO atoms, with origin mapped to origin. Source and target may be
--- the same skeleton; two strands may share an image."
+-- "Rules in order: (1) one byte per source strand, each a target strand; (2) target height at least the source's, equal
+-- directions at equal positions; (3) some sort-keeping substitution takes each source message to the message at the
+-- mapped node; (4) precedence is kept; (5) images of NO atoms are NO atoms; (6) images of UO atoms are UO atoms, with
+-- origin mapped to origin. Source and target may be the same skeleton; two strands may share an image."
 use mathlib.Core.Path.{_≡_}
 use mathlib.Core.Logic.{_↔_}
 use mathlib.Core.List.{List, List·Memᴰ}

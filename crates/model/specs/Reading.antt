@@ -1,6 +1,6 @@
--- A sheet from bytes, record by record: the sheet, or refusal 1 to 8 with its place.
--- "Reading stops at the first faulty record: mark (2; fewer than two bytes, 1), count (4), completeness (1; for ST height byte 1, its
--- range 4, events 1), then 3, 5, 6 or 7." Places of 1 to 7: the offset where the record begins, or where the missing next one would.
+-- A sheet from bytes, record by record: the sheet, or refusal 1 to 8 with its place. "Reading stops at the first faulty
+-- record: mark (2; fewer than two bytes, 1), count (4), completeness (1; for ST height byte 1, its range 4, events 1),
+-- then 3, 5, 6 or 7." Places of 1 to 7: the offset where the record begins, or where the missing next one would.
 use mathlib.Core.Path.{_≡_}
 use mathlib.Core.Bool.{Bool, true, false, not, cond, _&&_}
 use mathlib.Core.List.{List, [], _∷_, _++_}
@@ -28,8 +28,8 @@ mark-bytes NO = (0x4e, 0x4f)
 mark-bytes UO = (0x55, 0x4f)
 mark-bytes EN = (0x45, 0x4e)
 
--- "Order: BS, the TMs (any number down to none), one or two skeletons, EN. A skeleton is SK, one or more ST, then OR, NO and UO
--- records in that order, any number of each down to none." What may come at the start, and after a record:
+-- "Order: BS, the TMs (any number down to none), one or two skeletons, EN. A skeleton is SK, one or more ST, then OR,
+-- NO and UO records in that order, any number of each down to none." What may come at the start, and after a record:
 unfoldable pub may-follow : Option Mark → List Mark
 may-follow none = BS ∷ []
 may-follow (some BS) = TM ∷ SK ∷ []
@@ -125,8 +125,8 @@ unfoldable pub read-SK : ℕ → Said
 unfolding check
 read-SK skeletons = check (ltb skeletons most-skeletons) 4 (says begin)
 
--- ST: "height h, then h times: direction (0 send, 1 receive), term"; "7: direction, term .. wrong". It is told how many terms and
--- strands there are
+-- ST: "height h, then h times: direction (0 send, 1 receive), term"; "7: direction, term .. wrong". It is told how many
+-- terms and strands there are
 unfoldable pub event : ℕ → ℕ → Event ℕ
 event zero t = send t
 event (suc d) t = recv t
@@ -149,7 +149,8 @@ read-ST terms strands rest =
     (check (every h (event-right terms rest)) 7
     (says (strand (upto h (event-in rest))))))))
 
--- OR: "strand, position, strand, position"; "the OR pairs, which run from a send to a reception"; "7: .. node or OR direction wrong"
+-- OR: "strand, position, strand, position"; "the OR pairs, which run from a send to a reception"; "7: .. node or OR
+-- direction wrong"
 unfoldable pub event-at : Skeleton ℕ → Node → Option (Event ℕ)
 event-at K n = getElem? (getD (K .strands) (n .strand) []) (n .position)
 
@@ -265,8 +266,8 @@ unfoldable pub ended : State → Bool
 unfolding is-end
 ended s = is-end (s .last)
 
--- "The sheet is read record by record, each reader given only the remainder": from this state, at this offset, with this remainder.
--- "8: bytes after EN; first such byte"
+-- "The sheet is read record by record, each reader given only the remainder": from this state, at this offset, with
+-- this remainder. "8: bytes after EN; first such byte"
 pub data Read : State → ℕ → List ℕ → Reading → Type 0 where
   at-end : {s : State} {place : ℕ} → ended s ≡ true → Read s place [] (read (sheet-of s))
   beyond : {s : State} {place b : ℕ} {l : List ℕ} → ended s ≡ true → Read s place (b ∷ l) (fault 8 place)

@@ -1,4 +1,5 @@
--- What each answer of the code says, in the paper's numbers and values. The promises of the public functions use these definitions.
+-- What each answer of the code says, in the paper's numbers and values. The promises of the public functions use these
+-- definitions.
 use mathlib.Core.Bool.{Bool, true, false}
 use Prim.Native.Nat.{ℕ}
 use Rattle.terms.specs.declared.Node.{Node}

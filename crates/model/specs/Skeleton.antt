@@ -1,5 +1,6 @@
--- "SK: a skeleton begins"; "ST: height h, then h times: direction (0 send, 1 receive), term"; "OR: strand, position, strand, position";
--- "NO: non-originating atom"; "UO: uniquely originating atom". "Terms, skeletons, strands and positions count from 0."
+-- "SK: a skeleton begins"; "ST: height h, then h times: direction (0 send, 1 receive), term"; "OR: strand, position,
+-- strand, position"; "NO: non-originating atom"; "UO: uniquely originating atom". "Terms, skeletons, strands and
+-- positions count from 0."
 use mathlib.Core.Path.{_≡_}
 use mathlib.Core.List.{List, [], map}
 use mathlib.Core.Option.{some}

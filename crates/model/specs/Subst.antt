@@ -1,5 +1,5 @@
--- "some sort-keeping substitution (message variable: any term; asymmetric key: any kind 6, 7 or 8 term; symmetric key: kind 5 or 9;
--- others: own kind)". The sorts are built into the type.
+-- "some sort-keeping substitution (message variable: any term; asymmetric key: any kind 6, 7 or 8 term; symmetric key:
+-- kind 5 or 9; others: own kind)". The sorts are built into the type.
 use mathlib.Core.Bool.{Bool, true, false, not}
 use Prim.Native.Nat.{ℕ}
 use Rattle.model.specs.Term.{Sym, skey, ltk, Asym, akey, pubk, Atom, text, datum, name, symmetric, asymmetric, Term, tag, mesg, atom, pair, enc, hash}

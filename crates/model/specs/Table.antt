@@ -1,7 +1,7 @@
--- "Kinds: 0 tag, 1 message variable, 2 text, 3 data, 4 name, 5 symmetric key, 6 asymmetric key (1 to 6 are variables; for 0 to 6, a is
--- just a number); 7 public key of name a; 8 inverse of a (kind 6 or 7); 9 long-term key of names a, b (symmetric); 10 pair; 11 body a
--- under key b; 12 hash of a. Unused b is 0. Arguments are earlier terms. A key isn't a message variable. Kinds 2 to 9 are atoms. No two
--- TM records are alike, so equal terms have equal numbers."
+-- "Kinds: 0 tag, 1 message variable, 2 text, 3 data, 4 name, 5 symmetric key, 6 asymmetric key (1 to 6 are variables;
+-- for 0 to 6, a is just a number); 7 public key of name a; 8 inverse of a (kind 6 or 7); 9 long-term key of names a, b
+-- (symmetric); 10 pair; 11 body a under key b; 12 hash of a. Unused b is 0. Arguments are earlier terms. A key isn't a
+-- message variable. Kinds 2 to 9 are atoms. No two TM records are alike, so equal terms have equal numbers."
 use mathlib.Core.Bool.{Bool, true, false, not, _&&_, _||_}
 use mathlib.Core.List.{List, [], _∷_, _++_}
 use mathlib.Core.Option.{Option}

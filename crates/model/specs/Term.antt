@@ -1,6 +1,6 @@
--- "Inverse: an asymmetric key and its inverse are each other's inverse, so the inverse taken twice gives the key back, also after a
--- substitution; every other term is its own."
--- The messages: a sorted algebra in which an asymmetric key is inverted or not, and never twice, so that equal keys are one value.
+-- "Inverse: an asymmetric key and its inverse are each other's inverse, so the inverse taken twice gives the key back,
+-- also after a substitution; every other term is its own." The messages: a sorted algebra in which an asymmetric key is
+-- inverted or not, and never twice, so that equal keys are one value.
 use mathlib.Core.Bool.{Bool, not, Bool-discrete}
 use Prim.Native.Nat.{ℕ}
 use native.Mathlib.Decide.{ℕ-discrete}

@@ -1,4 +1,4 @@
--- `termset::ones` meets its contract: a word of 64 bits has at most 64 set. Assumes nothing.
+-- `terms::ones` meets its contract: a word of 64 bits has at most 64 set. Assumes nothing.
 use mathlib.Core.Path.{refl}
 use native.Mathlib.Omega.{arith}
 use lib.Count.{ones-le}

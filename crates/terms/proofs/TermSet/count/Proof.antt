@@ -1,4 +1,4 @@
--- `termset::TermSet::count` meets its contract: the bits of four words are counted. Assumes nothing.
+-- `terms::TermSet::count` meets its contract: the bits of four words are counted. Assumes nothing.
 use native.Mathlib.Omega.{arith}
 use borrow.Author.Needs.{needs}
 use Rattle.terms.proofs.Words.{ones-of, words-count, member-small}

@@ -1,4 +1,4 @@
--- `termset::TermSet::has` meets its contract: it computes what `member` says. Assumes nothing.
+-- `terms::TermSet::has` meets its contract: it computes what `member` says. Assumes nothing.
 use mathlib.Core.Path.{refl}
 use borrow.Author.Needs.{needs}
 use Rattle.terms.specs.Set.{member, bit}

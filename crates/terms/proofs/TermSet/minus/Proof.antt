@@ -1,4 +1,4 @@
--- `termset::TermSet::minus` meets its contract. Assumes nothing.
+-- `terms::TermSet::minus` meets its contract. Assumes nothing.
 use borrow.Author.Needs.{needs}
 use Rattle.terms.proofs.Words.{member-minus}
 use Rattle.terms.proofs.TermSet.minus.Statement.{statement}

@@ -1,4 +1,4 @@
--- `termset::TermSet::union` meets its contract. Assumes nothing.
+-- `terms::TermSet::union` meets its contract. Assumes nothing.
 use borrow.Author.Needs.{needs}
 use Rattle.terms.proofs.Words.{member-union}
 use Rattle.terms.proofs.TermSet.union.Statement.{statement}

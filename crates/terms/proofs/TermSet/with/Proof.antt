@@ -1,4 +1,4 @@
--- `termset::TermSet::with` meets its contract. Assumes nothing.
+-- `terms::TermSet::with` meets its contract. Assumes nothing.
 use borrow.Author.Needs.{needs}
 use Rattle.terms.proofs.Words.{member-with}
 use Rattle.terms.proofs.TermSet.with.Statement.{statement}
