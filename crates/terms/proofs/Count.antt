@@ -71,3 +71,20 @@ module _ (p q : ℕ → Bool) (sub : (k : ℕ) → p k ≡ true → q k ≡ true
       (λ (same : k ≡ n). rw same (one-back (p n) (q n) (omega (arith, count-grows n)) (rw same at e)))
       (λ (less : k < n). count-same n (omega (arith, one-grows (p n) (q n) (sub n))) k less e)
       (eq-or-lt-of-le (le-of-suc-le-suc l))
+
+-- none passes where none is counted
+pub count-zero : (p : ℕ → Bool) (n : ℕ) → count p n ≡ 0 → (k : ℕ) → k < n → p k ≡ false
+unfolding count
+count-zero p zero h k l = absurd (not-suc-le-zero l)
+count-zero p (suc n) h k l =
+    ⊎-elim (λ (same : k ≡ n). rw same (none-if (p n) (omega arith)))
+    (λ (less : k < n). count-zero p n (omega arith) k less) (eq-or-lt-of-le (le-of-suc-le-suc l))
+  where
+    none-if : (b : Bool) → one-if b ≡ 0 → b ≡ false
+    none-if true e = absurd (omega arith)
+    none-if false e = refl
+
+pub zero-count : (p : ℕ → Bool) (n : ℕ) → ((k : ℕ) → k < n → p k ≡ false) → count p n ≡ 0
+unfolding count
+zero-count p zero h = refl
+zero-count p (suc n) h = rw (h n (omega arith)) (omega (arith, zero-count p n (λ k l. h k (omega arith))))

@@ -89,6 +89,10 @@ member-minus xs ys hx hy small =
     member-word-wise but-not refl xs ys hx hy (λ a b. a && not b)
     (λ i k l. rw (bit-and (getD xs i 0) ((2 ^ 64 - 1) - getD ys i 0) k, bit-not 64 (getD ys i 0) k (small i .fits) l))
 
+pub member-common : (xs ys : List ℕ) → length xs ≡ 4 → length ys ≡ 4 → (k : ℕ)
+    → member (word-wise bitAnd xs ys) k ≡ (member xs k && member ys k)
+member-common xs ys hx hy = member-word-wise bitAnd refl xs ys hx hy _&&_ (λ i k l. bit-and _ _ k)
+
 -- no word has a bit
 zeros : (i : ℕ) → getD {A = ℕ} (0 ∷ 0 ∷ 0 ∷ 0 ∷ []) i 0 ≡ 0
 zeros zero = refl

@@ -1,6 +1,7 @@
 // Sets of term numbers, as words of bits: number k is bit k % 64 of word k / 64.
 ghost use mathlib.Core.Path.{_≡_};
-ghost use mathlib.Core.Bool.{_||_, _&&_, not};
+ghost use mathlib.Core.Bool.{_||_, _&&_, not, true, false};
+ghost use mathlib.Core.Logic.{_↔_};
 ghost use Prim.Native.Nat.{ℕ, _≤_};
 ghost use lib.Count;
 ghost use lib.Dec.{eqb};
@@ -86,6 +87,27 @@ impl TermSet {
                 self.words[3] & !other.words[3],
             ],
         }
+    }
+
+    // What is in both sets.
+    pub fn common(self, other: TermSet) -> TermSet
+        ensures { λ r. ⌜ ((k : ℕ) → mem r k ≡ (mem self k && mem other k)) ⌝ }
+    {
+        TermSet {
+            words: [
+                self.words[0] & other.words[0],
+                self.words[1] & other.words[1],
+                self.words[2] & other.words[2],
+                self.words[3] & other.words[3],
+            ],
+        }
+    }
+
+    // Whether nothing is in the set.
+    pub fn is_empty(self) -> bool
+        ensures { λ r. ⌜ (r ≡ true) ↔ ((k : ℕ) → mem self k ≡ false) ⌝ }
+    {
+        self.count() == 0
     }
 
     // How many are in the set.
