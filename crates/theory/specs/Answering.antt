@@ -95,11 +95,18 @@ module _ (t t′ : ℕ) (S : List ℕ) where
   unfolding reach loose-rules is-lent
   within-test rows = not (marked (reach (loose-rules is-lent rows t) (length rows)) t′)
 
-  module _ (rows : List Row) (good : Good rows) (h : t < length rows) (h′ : t′ < length rows) (all : (i : ℕ) → List·Memᴰ i S → i < length rows) where
+  module _ (rows : List Row) (good : Good rows) (h : t < length rows) (h′ : t′ < length rows)
+      (all : (i : ℕ) → List·Memᴰ i S → i < length rows) where
     member-marked : (u : Term) → Member t t′ S rows u → Marked rows is-lent u
     unfolding is-lent
     member-marked u m =
-        record { which = m .number; inside = all (m .number) (m .lent); holds = finds-some (eqb (m .number)) S (m .lent) (eqb-refl (m .number)); means = m .means }
+        record {
+          which = m .number;
+          inside = all (m .number) (m .lent);
+          holds = finds-some (eqb (m .number)) S (m .lent)
+              (eqb-refl (m .number));
+          means = m .means;
+        }
 
     marked-member : (u : Term) → Marked rows is-lent u → Member t t′ S rows u
     unfolding is-lent
@@ -110,7 +117,8 @@ module _ (t t′ : ℕ) (S : List ℕ) where
     member-test : (u : Term) → Dec (Member t t′ S rows u)
     member-test u =
         dec-to (dec-some (λ i. term rows i ≡ u) S (λ i m. same (term rows i) u))
-        (λ s. record { number = s .which; lent = s .listed; means = s .holds }) (λ m. record { which = m .number; listed = m .lent; holds = m .means })
+        (λ s. record { number = s .which; lent = s .listed; means = s .holds })
+        (λ m. record { which = m .number; listed = m .lent; holds = m .means })
 
     not-iff : (b : Bool) {P : Type 0} → T b ↔ P → T (not b) ↔ (¬ P)
     not-iff true h = (λ x p. x, λ n. n (h .0 tt))
@@ -119,16 +127,21 @@ module _ (t t′ : ℕ) (S : List ℕ) where
     pub within-iff : T (within-test rows) ↔ OnlyWithin (Member t t′ S rows) (term rows t) (term rows t′)
     unfolding within-test
     within-iff =
-        let d = not-iff (marked (reach (loose-rules is-lent rows t) (length rows)) t′) (loose-decided rows good is-lent t h t′ h′) in
+        let d = not-iff (marked (reach (loose-rules is-lent rows t) (length rows)) t′)
+        (loose-decided rows good is-lent t h t′ h′) in
         let w = within-iff-not-loose (Member t t′ S rows) member-test (term rows t) (term rows t′) in
         (λ x. w .1 (λ l. d .0 x (loose-more marked-member l)), λ o. d .1 (λ l. w .0 o (loose-more member-marked l)))
 
   unfoldable pub meets-terms : (s : Sheet) → Dec (Meets (HasTerms t t′ S) s)
   unfolding dec-to dec-both dec-all less
   meets-terms s =
-      dec-to (dec-both (less t (length (s .rows))) (dec-both (less t′ (length (s .rows))) (dec-all (λ i. i < length (s .rows)) S (λ i m. less i (length (s .rows))))))
+      dec-to (dec-both (less t (length (s .rows))) (dec-both (less t′ (length (s .rows)))
+      (dec-all (λ i. i < length (s .rows)) S (λ i m. less i (length (s .rows))))))
       (λ p. record { what = s .rows; is = record { rows-of = refl; first = p .0; second = p .1 .0; all = p .1 .1 .each } })
-      (λ m. let e = m .is .rows-of in (rw e (m .is .first), (rw e (m .is .second), record { each = λ i k. rw e (m .is .all i k) })))
+      (λ m. let e = m .is .rows-of in (
+        rw e (m .is .first),
+        (rw e (m .is .second), record { each = λ i k. rw e (m .is .all i k) }),
+      ))
 
   unfoldable pub within-had : (s : Sheet) → Sound s → Had (HasTerms t t′ S) Always (SaysWithin t t′ S) S (Verdict.accepted s)
   unfolding had meets-terms within-test
@@ -151,7 +164,8 @@ no-such-one e f = let q = back e ∙ f in let z : _≡_ {A = ℕ} 0 1 = cc in om
 module _ (k : ℕ) (s : Sheet) where
   unfoldable pub skeleton-there : (o : Option (Skeleton ℕ)) → getElem? (s .skeletons) k ≡ o → Dec (Meets (HasSkeleton k) s)
   skeleton-there none e = no (λ m. no-such-one e (m .is .skeleton))
-  skeleton-there (some K) e = yes (record { what = record { rows = s .rows; skeleton = K }; is = record { rows = refl; skeleton = e } })
+  skeleton-there (some K) e =
+      yes (record { what = record { rows = s .rows; skeleton = K }; is = record { rows = refl; skeleton = e } })
 
   unfoldable pub meets-skeleton : Dec (Meets (HasSkeleton k) s)
   unfolding skeleton-there
@@ -166,11 +180,13 @@ module _ (k : ℕ) (s : Sheet) where
     pub sent-there : {K : Skeleton ℕ} {t : ℕ} → At K n (send t) → (u : ℕ) → ¬ At K n (recv u)
     sent-there {K} a u b = let q = at-one K a b in let z : _≡_ {A = ℕ} 0 1 = cc in omega arith
 
-    unfoldable pub reception-there : (D : Drawing) → HasSkeleton k s D → (o : Option (Event ℕ)) → getElem? (trace (D .skeleton) (n .strand)) (n .position) ≡ o
+    unfoldable pub reception-there : (D : Drawing) → HasSkeleton k s D → (o : Option (Event ℕ))
+        → getElem? (trace (D .skeleton) (n .strand)) (n .position) ≡ o
         → Dec (Meets (HasReception k n) s)
     reception-there D h none e = no (not-that D h (λ u a. no-such-one e (a .is)))
     reception-there D h (some (send t)) e = no (not-that D h (sent-there (record { is = e })))
-    reception-there D h (some (recv t)) e = yes (record { what = D; is = record { drawing = h; message = t; at = record { is = e } } })
+    reception-there D h (some (recv t)) e =
+        yes (record { what = D; is = record { drawing = h; message = t; at = record { is = e } } })
 
     unfoldable pub in-skeleton : Dec (Meets (HasSkeleton k) s) → Dec (Meets (HasReception k n) s)
     unfolding reception-there
@@ -188,15 +204,17 @@ module _ (k : ℕ) (s : Sheet) where
         (λ p. record { what = p .0 .what; is = record { reception = p .0 .is; a-term = rw (p .0 .is .drawing .rows) at (p .1) } })
         (λ m. (record { what = m .what; is = m .is .reception }, rw (m .is .reception .drawing .rows) (m .is .a-term)))
 
--- AskDerivable, reach
+-- Derivable before, and reach
 
 module _ (k : ℕ) (n : Node) (s : Sheet) (sound : Sound s) (D : Drawing) (h : HasReception k n s D) where
-  pub reached-iff : (i : ℕ) → i < length (D .rows) → T (marked (reached-before (D .rows) (D .skeleton) n) i) ↔ DerivableBefore (meant D) n (term (D .rows) i)
+  pub reached-iff : (i : ℕ) → i < length (D .rows)
+      → T (marked (reached-before (D .rows) (D .skeleton) n) i) ↔ DerivableBefore (meant D) n (term (D .rows) i)
   unfolding meant
   reached-iff i l =
       let good : Good (D .rows) = rw (h .drawing .rows) at (sound .good) in
       let ok = sound .drawings k D (h .drawing) in
-      before-decided (D .rows) good (D .skeleton) ok n (ok .positions n _ (h .at)) (node-inside (D .rows) good (D .skeleton) ok (h .at)) (h .message) (h .at) i l
+      before-decided (D .rows) good (D .skeleton) ok n (ok .positions n _ (h .at))
+      (node-inside (D .rows) good (D .skeleton) ok (h .at)) (h .message) (h .at) i l
 
 module _ (k : ℕ) (n : Node) (t : ℕ) (s : Sheet) (sound : Sound s) where
   unfoldable pub derivable-had : Had (HasReceptionAndTerm k n t) Always (SaysDerivable k n t) [] (Verdict.accepted s)
@@ -206,7 +224,11 @@ module _ (k : ℕ) (n : Node) (t : ℕ) (s : Sheet) (sound : Sound s) where
       (λ D h _. record {
         answer = marked (reached-before (D .rows) (D .skeleton) n) t;
         after = [];
-        is = record { tells = told-by (marked (reached-before (D .rows) (D .skeleton) n) t) (reached-iff k n s sound D (h .reception) t (h .a-term)); kept = refl };
+        is = record {
+          tells = told-by (marked (reached-before (D .rows) (D .skeleton) n) t)
+              (reached-iff k n s sound D (h .reception) t (h .a-term));
+          kept = refl;
+        };
       })
       (meets-both k s n t)
 
@@ -244,7 +266,8 @@ module _ (test : ℕ → Bool) where
       go : (b : Bool) → test i ≡ b → Dec (j ≡ i) → (Passes (suc i) m j → List·Memᴰ j (passing (suc i) m))
           → List·Memᴰ j (cond b (i ∷ passing (suc i) m) (passing (suc i) m))
       go true e (yes q) f = List·Memᴰ·head q
-      go true e (no q) f = List·Memᴰ·tail (f (record { from = omega (arith, p .from); below = omega (arith, p .below); holds = p .holds }))
+      go true e (no q) f =
+          List·Memᴰ·tail (f (record { from = omega (arith, p .from); below = omega (arith, p .below); holds = p .holds }))
       go false e (yes q) f = absurd (rw (q, e) at (p .holds))
       go false e (no q) f = f (record { from = omega (arith, p .from); below = omega (arith, p .below); holds = p .holds })
 
@@ -253,13 +276,17 @@ module _ (test : ℕ → Bool) where
   passing-rising i zero = R.none
   passing-rising i (suc m) = go (test i) (passing-rising (suc i) m)
     where
-      go : (b : Bool) → Rising (λ a b. a < b) (passing (suc i) m) → Rising (λ a b. a < b) (cond b (i ∷ passing (suc i) m) (passing (suc i) m))
+      go : (b : Bool) → Rising (λ a b. a < b) (passing (suc i) m)
+          → Rising (λ a b. a < b) (cond b (i ∷ passing (suc i) m) (passing (suc i) m))
       go true r = more {x = i} (λ y q. omega (arith, passing-in (suc i) m y q .from)) r
       go false r = r
 
   pub passing-iff : (n j : ℕ) → List·Memᴰ j (passing 0 n) ↔ ((j < n) × T (test j))
-  passing-iff n j =
-      (λ q. let p = passing-in 0 n j q in (omega (arith, p .below), p .holds), λ p. in-passing 0 n j (record { from = omega arith; below = omega (arith, p .0); holds = p .1 }))
+  passing-iff n j = (
+    λ q. let p = passing-in 0 n j q in (omega (arith, p .below), p .holds),
+    λ p. in-passing 0 n j
+        (record { from = omega arith; below = omega (arith, p .0); holds = p .1 }),
+  )
 
   pub passing-rises : (n : ℕ) → Rising (λ a b. a < b) (passing 0 n)
   passing-rises n = passing-rising 0 n
@@ -304,9 +331,11 @@ module _ (rows : List Row) (good : Good rows) (K : Skeleton ℕ) (ok : OnTable r
   pub record ClosedAt (n : Node) : Type 0 where
     pub realized : (t : Term) → At L n (recv t) → DerivableBefore L n t
 
-  pub reception-iff : {n : Node} {u : ℕ} → At K n (recv u) → T (marked (reached-before rows K n) u) ↔ DerivableBefore L n (term rows u)
+  pub reception-iff : {n : Node} {u : ℕ} → At K n (recv u)
+      → T (marked (reached-before rows K n) u) ↔ DerivableBefore L n (term rows u)
   unfolding message
-  reception-iff {n} {u} a = before-decided rows good K ok n (ok .positions n (recv u) a) (node-inside rows good K ok a) u a u (ok .messages n (recv u) a)
+  reception-iff {n} {u} a = before-decided rows good K ok n (ok .positions n (recv u) a) (node-inside rows good K ok a) u a u
+      (ok .messages n (recv u) a)
 
   pub only-reception : {n : Node} {u : ℕ} {t : Term} → At K n (recv u) → At L n (recv t) → term rows u ≡ t
   only-reception {n} {u} a b =
@@ -326,16 +355,20 @@ module _ (rows : List Row) (good : Good rows) (K : Skeleton ℕ) (ok : OnTable r
             absurd (f w (rw z at c));
       }
 
-  unfoldable pub open-or : {n : Node} {u : ℕ} → At K n (recv u) → (b : Bool) → T b ↔ DerivableBefore L n (term rows u) → OpenAt n ⊎ ClosedAt n
+  unfoldable pub open-or : {n : Node} {u : ℕ} → At K n (recv u) → (b : Bool) → T b ↔ DerivableBefore L n (term rows u)
+      → OpenAt n ⊎ ClosedAt n
   unfolding on-message
   open-or {n} {u} a true h = inr (record { realized = λ t b. rw (only-reception a b) at (h .0 tt) })
   open-or {n} {u} a false h = inl (record { message = term rows u; at = at-means (term rows) K a; unrealized = λ d. h .1 d })
 
-  unfoldable pub at-node : (n : Node) (o : Option (Event ℕ)) → getElem? (trace K (n .strand)) (n .position) ≡ o → OpenAt n ⊎ ClosedAt n
+  unfoldable pub at-node : (n : Node) (o : Option (Event ℕ)) → getElem? (trace K (n .strand)) (n .position) ≡ o
+      → OpenAt n ⊎ ClosedAt n
   unfolding open-or reached-before
   at-node n none e = inr (no-reception (λ u a. no-such-one e (a .is)))
-  at-node n (some (send t)) e = inr (no-reception (λ u a. let q = at-one K (record { is = e }) a in let z : _≡_ {A = ℕ} 0 1 = cc in omega arith))
-  at-node n (some (recv t)) e = open-or (record { is = e }) (marked (reached-before rows K n) t) (reception-iff (record { is = e }))
+  at-node n (some (send t)) e =
+      inr (no-reception (λ u a. let q = at-one K (record { is = e }) a in let z : _≡_ {A = ℕ} 0 1 = cc in omega arith))
+  at-node n (some (recv t)) e =
+      open-or (record { is = e }) (marked (reached-before rows K n) t) (reception-iff (record { is = e }))
 
   abbrev node : ℕ → ℕ → Node
   node s p = record { strand = s; position = p }
@@ -352,7 +385,9 @@ module _ (rows : List Row) (good : Good rows) (K : Skeleton ℕ) (ok : OnTable r
   pub beyond : (s p : ℕ) → height K s ≤ p → ClosedAt (node s p)
   beyond s p h = no-reception (λ u a. omega (arith, inside-list (trace K s) p (a .is)))
 
-  unfoldable pub strand-from : (s : ℕ) → First (λ p. OpenAt (node s p)) (λ p. ClosedAt (node s p)) (height K s) ⊎ ((p : ℕ) → p < height K s → ClosedAt (node s p)) → OpenOn s ⊎ ClosedOn s
+  unfoldable pub strand-from : (s : ℕ)
+      → First (λ p. OpenAt (node s p)) (λ p. ClosedAt (node s p)) (height K s) ⊎ ((p : ℕ) → p < height K s → ClosedAt (node s p))
+      → OpenOn s ⊎ ClosedOn s
   strand-from s (inl f) = inl (record { place = f .which; opens = f .holds; earlier = f .before })
   strand-from s (inr g) = inr (record { each = λ p. every-place p (decLt p (height K s)) })
     where
@@ -363,7 +398,8 @@ module _ (rows : List Row) (good : Good rows) (K : Skeleton ℕ) (ok : OnTable r
   unfoldable pub on-strand : (s : ℕ) → OpenOn s ⊎ ClosedOn s
   unfolding strand-from first-of at-node
   on-strand s =
-      strand-from s (first-of (λ p. OpenAt (node s p)) (λ p. ClosedAt (node s p)) (height K s) (λ p l. at-node (node s p) (getElem? (trace K s) p) refl))
+      strand-from s (first-of (λ p. OpenAt (node s p)) (λ p. ClosedAt (node s p)) (height K s)
+      (λ p l. at-node (node s p) (getElem? (trace K s) p) refl))
 
   abbrev D : Drawing
   D = record { rows = rows; skeleton = K }
@@ -375,7 +411,8 @@ module _ (rows : List Row) (good : Good rows) (K : Skeleton ℕ) (ok : OnTable r
     where
       go : (m : Node) → Sooner m (node (f .which) (f .holds .place)) → ClosedAt m
       go m (strand l) = f .before (m .strand) l .each (m .position)
-      go m (position e l) = let q : node (f .which) (m .position) ≡ m = λ i. record { strand = back e i; position = m .position } in rw q at (f .holds .earlier (m .position) l)
+      go m (position e l) = let q : node (f .which) (m .position) ≡ m = λ i.
+          record { strand = back e i; position = m .position } in rw q at (f .holds .earlier (m .position) l)
 
   pub all-closed : ((s : ℕ) → s < length (K .strands) → ClosedOn s) → Realized L
   unfolding Realized
@@ -384,12 +421,15 @@ module _ (rows : List Row) (good : Good rows) (K : Skeleton ℕ) (ok : OnTable r
       go : Dec (n .strand < length (K .strands)) → DerivableBefore L n t
       go (yes l) = g (n .strand) l .each (n .position) .realized t a
       go (no l) =
-          let c = no-reception {n = n} (λ u b. l (a-strand K (n .strand) (omega (arith, inside-list (trace K (n .strand)) (n .position) (b .is))))) in
+          let c = no-reception {n = n} (λ u b. l (a-strand K (n .strand)
+          (omega (arith, inside-list (trace K (n .strand)) (n .position) (b .is))))) in
           c .realized t a
 
-  unfoldable pub said-realized : First OpenOn ClosedOn (length (K .strands)) ⊎ ((s : ℕ) → s < length (K .strands) → ClosedOn s) → Told SaysRealized D
+  unfoldable pub said-realized : First OpenOn ClosedOn (length (K .strands)) ⊎ ((s : ℕ) → s < length (K .strands) → ClosedOn s)
+      → Told SaysRealized D
   unfolding meant
-  said-realized (inl f) = record { answer = open-at (node (f .which) (f .holds .place)); after = []; is = first-open (first-is f) }
+  said-realized (inl f) =
+      record { answer = open-at (node (f .which) (f .holds .place)); after = []; is = first-open (first-is f) }
   said-realized (inr g) = record { answer = realized; after = []; is = yes-realized (all-closed g) }
 
   unfoldable pub told-realized : Told SaysRealized D
@@ -401,4 +441,5 @@ module _ (k : ℕ) (s : Sheet) (sound : Sound s) where
   unfolding had meets-skeleton told-realized
   realized-had =
       had (HasSkeleton k) Always SaysRealized [] s (λ x h. yes tt)
-      (λ D h _. told-realized (D .rows) (rw (h .rows) at (sound .good)) (D .skeleton) (sound .drawings k D h)) (meets-skeleton k s)
+      (λ D h _. told-realized (D .rows) (rw (h .rows) at (sound .good)) (D .skeleton) (sound .drawings k D h))
+      (meets-skeleton k s)

@@ -20,7 +20,12 @@ pub record Answered (bytes : List ℕ) {A : Type 0} (Question : Verdict → Answ
 module _ {X A : Type 0} (Subject : Sheet → X → Type 0) (Room : X → Type 0) (Says : X → A → List ℕ → Type 0) (lent : List ℕ)
     (had : (s : Sheet) → Sound s → Had Subject Room Says lent (Verdict.accepted s)) where
   unfoldable pub answer-to : {bytes : List ℕ} (v : Verdict) → HasVerdict bytes v → Answered bytes (Asked Subject Room Says lent)
-  answer-to (Verdict.refused r) h = record { answer = Answer.refused r; after = lent; gives = record { verdict = Verdict.refused r; judged = h; is = bad-sheet } }
+  answer-to (Verdict.refused r) h = record {
+    answer = Answer.refused r;
+    after = lent;
+    gives =
+        record { verdict = Verdict.refused r; judged = h; is = bad-sheet };
+  }
   answer-to (Verdict.accepted s) h =
       let a = had s (verdict-sound h) in
       record { answer = a .answer; after = a .after; gives = record { verdict = Verdict.accepted s; judged = h; is = a .is } }
@@ -52,9 +57,11 @@ ask-realized k bytes = ask (HasSkeleton k) Always SaysRealized [] (realized-had 
 unfoldable pub ask-list : (source target : ℕ) (lent bytes : List ℕ) → Answered bytes (AskList source target lent)
 unfolding ask list-had AskList
 ask-list source target lent bytes =
-    ask (HasSkeletons source target) (ListRoom source target lent) (SaysList source target lent) lent (λ s sound. list-had source target s sound lent) bytes
+    ask (HasSkeletons source target) (ListRoom source target lent) (SaysList source target lent) lent
+    (λ s sound. list-had source target s sound lent) bytes
 
 unfoldable pub ask-map : (source target : ℕ) (map lent bytes : List ℕ) → Answered bytes (AskMap source target map lent)
 unfolding ask map-had AskMap
 ask-map source target map lent bytes =
-    ask (HasSkeletons source target) (ImageRoom source target map lent) (SaysMap source target map lent) lent (map-had source target map lent) bytes
+    ask (HasSkeletons source target) (ImageRoom source target map lent) (SaysMap source target map lent) lent
+    (map-had source target map lent) bytes

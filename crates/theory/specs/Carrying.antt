@@ -73,7 +73,8 @@ module _ (rows : List Row) (good : Good rows) (set : ℕ → Bool) (t : ℕ) (in
       go false q =
           let l = law rows good i h e in
           let n = unmarked i h l q in
-          each-cons Sound (λ f. rw l (Loose.left n (f a (List·Memᴰ·head refl)))) (each-cons Sound (λ f. rw l (Loose.right n (f b (List·Memᴰ·head refl)))) (each-nil Sound))
+          each-cons Sound (λ f. rw l (Loose.left n (f a (List·Memᴰ·head refl))))
+          (each-cons Sound (λ f. rw l (Loose.right n (f b (List·Memᴰ·head refl)))) (each-nil Sound))
   row-sound i h (Enc a b) e = go (set i) refl
     where
       go : (x : Bool) → set i ≡ x → Each Sound (cond x [] (_⊢_ (a ∷ []) i ∷ []))
@@ -100,25 +101,35 @@ module _ (rows : List Row) (good : Good rows) (set : ℕ → Bool) (t : ℕ) (in
   unset {u} s n = go (set (number rows u)) refl
     where
       go : (b : Bool) → set (number rows u) ≡ b → b ≡ false
-      go true e = absurd (n (record { which = number rows u; inside = number-inside rows good s; holds = rw e tt; means = term-number rows good s }))
+      go true e = absurd (n (record {
+        which = number rows u;
+        inside = number-inside rows good s;
+        holds = rw e tt;
+        means =
+            term-number rows good s;
+      }))
       go false e = refl
 
   rule-of : {u : Term} {r : Rule} → OnSheet rows u → List·Memᴰ r (carry-rules set (number rows u) (row-of (number rows) u))
       → List·Memᴰ r (loose-rules set rows t)
   unfolding loose-rules
   rule-of {u} s m =
-      List·Memᴰ·tail (of-row (carry-rules set) rows 0 (number rows u) (number rows u) (omega arith) (number-inside rows good s) (rw (row-at-number rows good s) m))
+      List·Memᴰ·tail (of-row (carry-rules set) rows 0 (number rows u) (number rows u) (omega arith) (number-inside rows good s)
+      (rw (row-at-number rows good s) m))
 
   free-reached : {u : Term} → OnSheet rows u → Loose (Marked rows set) (term rows t) u → R (number rows u)
   unfolding R carry-rules row-of loose-rules
   free-reached s Loose.here = rw (number-term rows good t inside) (by (List·Memᴰ·head refl) (each-nil R))
   free-reached s (Loose.left {u} {v} n l) =
-      by {r = _⊢_ (number rows u ∷ []) (number rows (pair u v))} (rule-of s (rw (unset s n) (List·Memᴰ·head refl))) (each-cons R (free-reached (on-pair rows good s .0) l) (each-nil R))
+      by {r = _⊢_ (number rows u ∷ []) (number rows (pair u v))} (rule-of s (rw (unset s n) (List·Memᴰ·head refl)))
+      (each-cons R (free-reached (on-pair rows good s .0) l) (each-nil R))
   free-reached s (Loose.right {u} {v} n l) =
-      by {r = _⊢_ (number rows v ∷ []) (number rows (pair u v))} (rule-of s (rw (unset s n) (List·Memᴰ·tail (List·Memᴰ·head refl))))
+      by {r = _⊢_ (number rows v ∷ []) (number rows (pair u v))}
+      (rule-of s (rw (unset s n) (List·Memᴰ·tail (List·Memᴰ·head refl))))
       (each-cons R (free-reached (on-pair rows good s .1) l) (each-nil R))
   free-reached s (Loose.body {u} {k} n l) =
-      by {r = _⊢_ (number rows u ∷ []) (number rows (enc u k))} (rule-of s (rw (unset s n) (List·Memᴰ·head refl))) (each-cons R (free-reached (on-enc rows good s .0) l) (each-nil R))
+      by {r = _⊢_ (number rows u ∷ []) (number rows (enc u k))} (rule-of s (rw (unset s n) (List·Memᴰ·head refl)))
+      (each-cons R (free-reached (on-enc rows good s .0) l) (each-nil R))
 
   Below : Rule → Type 0
   Below r = r .gives < length rows
@@ -149,7 +160,8 @@ module _ (rows : List Row) (good : Good rows) (set : ℕ → Bool) (t : ℕ) (in
 
   rules-below : Each Below (loose-rules set rows t)
   unfolding loose-rules Below
-  rules-below = each-cons Below inside (each-row (carry-rules set) Below rows 0 (λ i p e h. row-below p (omega arith) (row rows i)))
+  rules-below =
+      each-cons Below inside (each-row (carry-rules set) Below rows 0 (λ i p e h. row-below p (omega arith) (row rows i)))
 
   pub loose-decided : (i : ℕ) → i < length rows
       → T (marked (reach (loose-rules set rows t) (length rows)) i) ↔ Loose (Marked rows set) (term rows t) (term rows i)

@@ -125,7 +125,8 @@ module _ (rows : List Row) (img : ℕ → Option ℕ) where
           let (k, z) = key-shown (term rows) s (term-law rows good a (omega arith)) in
           let y : Keyish (term rows a) = rw z (keyish-atom _) in
           back (inv-apply reading (term rows a) y) ∙ (ap inv (known a c b i) ∙ back p)
-      image-row (Ltk a c) q b s (x, y, i, j, p) = rw (law rows good u l p, name-image a x (b .0) (s .0) i, name-image c y (b .1) (s .1) j)
+      image-row (Ltk a c) q b s (x, y, i, j, p) =
+          rw (law rows good u l p, name-image a x (b .0) (s .0) i, name-image c y (b .1) (s .1) j)
       image-row (Pair a c) q b s (x, y, i, j, p) = rw (law rows good u l p, known a x (b .0) i, known c y (b .1) j)
       image-row (Enc a c) q b s (x, y, i, j, p) = rw (law rows good u l p, known a x (b .0) i, known c y (b .1) j)
       image-row (Hash a) q b s (x, i, p) = rw (law rows good u l p, known a x b i)
@@ -150,16 +151,19 @@ module _ (rows : List Row) (good : Good rows) (σ : Subst) where
   row-back : (u : ℕ) → u < length rows → {w : Term} → w ≡ term rows u → row rows u ≡ row-of (number rows) w
   row-back u h e = row-is rows good u h ∙ ap (row-of (number rows)) (back e)
 
-  name-moved : (a : ℕ) → a < length rows → IsName (row rows a) → apply σ (atom (name (name-of (term rows a)))) ≡ apply σ (term rows a)
+  name-moved : (a : ℕ) → a < length rows → IsName (row rows a)
+      → apply σ (atom (name (name-of (term rows a)))) ≡ apply σ (term rows a)
   name-moved a h n = ap (apply σ) (name-shown (term rows) n (term-law rows good a h))
 
   inverse-moved : (a u : ℕ) → a < length rows → u < length rows → IsKey (row rows a) → apply σ (inv (term rows a)) ≡ term rows u
-      → (number rows (apply σ (term rows a)) < length rows) × (term rows u ≡ inv (term rows (number rows (apply σ (term rows a)))))
+      → (number rows (apply σ (term rows a)) < length rows)
+      × (term rows u ≡ inv (term rows (number rows (apply σ (term rows a)))))
   inverse-moved a u h l k e =
       let (b, z) = key-shown (term rows) k (term-law rows good a h) in
       let y : Keyish (term rows a) = rw z (keyish-atom _) in
       let x : inv (apply σ (term rows a)) ≡ term rows u = inv-apply σ (term rows a) y ∙ e in
-      let s : OnSheet rows (inv (term rows u)) = on-inverse rows good (term rows u) (record { which = u; inside = l; means = refl }) in
+      let s : OnSheet rows (inv (term rows u)) = on-inverse rows good (term rows u)
+      (record { which = u; inside = l; means = refl }) in
       let w : inv (term rows u) ≡ apply σ (term rows a) = ap inv (back x) ∙ inv-inv _ in
       let o : OnSheet rows (apply σ (term rows a)) = rw w at s in
       (number-inside rows good o, back x ∙ ap inv (back (term-number rows good o)))
@@ -177,8 +181,14 @@ module _ (rows : List Row) (good : Good rows) (σ : Subst) where
   fits-row (Akey n) t u l h b s e = (_, _, back e)
   fits-row (Pubk a) t u l h b s e = (_, refl, row-back u h e ∙ ap Pubk (ap (number rows) (name-moved a (omega arith) s)))
   fits-row (Inv a) t u l h b s e = let m = inverse-moved a u (omega arith) h s e in (_, refl, m .0, m .1)
-  fits-row (Ltk a c) t u l h b s e =
-      (_, _, refl, refl, row-back u h e ∙ ap₂ Ltk (ap (number rows) (name-moved a (omega arith) (s .0))) (ap (number rows) (name-moved c (omega arith) (s .1))))
+  fits-row (Ltk a c) t u l h b s e = (
+    _,
+    _,
+    refl,
+    refl,
+    row-back u h e ∙ ap₂ Ltk (ap (number rows) (name-moved a (omega arith) (s .0)))
+        (ap (number rows) (name-moved c (omega arith) (s .1))),
+  )
   fits-row (Pair a c) t u l h b s e = (_, _, refl, refl, row-back u h e)
   fits-row (Enc a c) t u l h b s e = (_, _, refl, refl, row-back u h e)
   fits-row (Hash a) t u l h b s e = (_, refl, row-back u h e)

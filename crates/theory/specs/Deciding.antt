@@ -112,8 +112,10 @@ module _ (P Q : ℕ → Type 0) where
     pub holds : P which
     pub before : (j : ℕ) → j < which → Q j
 
-  unfoldable pub first-step : (n : ℕ) → P n ⊎ Q n → First n ⊎ ((i : ℕ) → i < n → Q i) → First (suc n) ⊎ ((i : ℕ) → i < suc n → Q i)
-  first-step n d (inl f) = inl (record { which = f .which; inside = omega (arith, f .inside); holds = f .holds; before = f .before })
+  unfoldable pub first-step : (n : ℕ) → P n ⊎ Q n → First n ⊎ ((i : ℕ) → i < n → Q i)
+      → First (suc n) ⊎ ((i : ℕ) → i < suc n → Q i)
+  first-step n d (inl f) =
+      inl (record { which = f .which; inside = omega (arith, f .inside); holds = f .holds; before = f .before })
   first-step n (inl p) (inr f) = inl (record { which = n; inside = omega arith; holds = p; before = f })
   first-step n (inr q) (inr f) = inr λ i l. go i l (ℕ-discrete i n)
     where
@@ -137,7 +139,8 @@ module _ (P Q : ℕ → Type 0) where
     lower-first f b (List·Memᴰ·head e) h = absurd (omega arith)
     lower-first f b (List·Memᴰ·tail m) h = f b m h
 
-    pub lower-later : (w : ℕ) → (y < w → Q y) → ((b : ℕ) → List·Memᴰ b l → b < w → Q b) → (b : ℕ) → List·Memᴰ b (y ∷ l) → b < w → Q b
+    pub lower-later : (w : ℕ) → (y < w → Q y) → ((b : ℕ) → List·Memᴰ b l → b < w → Q b) → (b : ℕ) → List·Memᴰ b (y ∷ l) → b < w
+        → Q b
     lower-later w q f b (List·Memᴰ·head e) h = rw e (q (omega arith))
     lower-later w q f b (List·Memᴰ·tail m) h = f b m h
 
@@ -145,13 +148,27 @@ module _ (P Q : ℕ → Type 0) where
     lowest-pick f p (yes h) =
         record { which = y; listed = List·Memᴰ·head refl; holds = p; lower = lower-first (λ b m k. f .lower b m (omega arith)) }
     lowest-pick f p (no h) =
-        record { which = f .which; listed = List·Memᴰ·tail (f .listed); holds = f .holds; lower = lower-later (f .which) (λ k. absurd (h k)) (f .lower) }
+        record {
+          which = f .which;
+          listed = List·Memᴰ·tail (f .listed);
+          holds = f .holds;
+          lower = lower-later (f .which)
+              (λ k. absurd (h k)) (f .lower);
+        }
 
-    unfoldable pub lowest-step : P y ⊎ Q y → Lowest l ⊎ ((b : ℕ) → List·Memᴰ b l → Q b) → Lowest (y ∷ l) ⊎ ((b : ℕ) → List·Memᴰ b (y ∷ l) → Q b)
+    unfoldable pub lowest-step : P y ⊎ Q y → Lowest l ⊎ ((b : ℕ) → List·Memᴰ b l → Q b)
+        → Lowest (y ∷ l) ⊎ ((b : ℕ) → List·Memᴰ b (y ∷ l) → Q b)
     unfolding lowest-pick less
-    lowest-step (inr q) (inl f) = inl (record { which = f .which; listed = List·Memᴰ·tail (f .listed); holds = f .holds; lower = lower-later (f .which) (λ k. q) (f .lower) })
+    lowest-step (inr q) (inl f) = inl (record {
+      which = f .which;
+      listed = List·Memᴰ·tail (f .listed);
+      holds = f .holds;
+      lower =
+          lower-later (f .which) (λ k. q) (f .lower);
+    })
     lowest-step (inl p) (inl f) = inl (lowest-pick f p (less y (f .which)))
-    lowest-step (inl p) (inr g) = inl (record { which = y; listed = List·Memᴰ·head refl; holds = p; lower = lower-first (λ b m k. g b m) })
+    lowest-step (inl p) (inr g) =
+        inl (record { which = y; listed = List·Memᴰ·head refl; holds = p; lower = lower-first (λ b m k. g b m) })
     lowest-step (inr q) (inr g) = inr λ b m. go b (List·Memᴰ·cases-cons m)
       where
         go : (b : ℕ) → (b ≡ y) ⊎ List·Memᴰ b l → Q b

@@ -110,7 +110,8 @@ sorted-true rows (Skey a) h = tt
 sorted-true rows (Akey a) h = tt
 sorted-true rows (Pubk a) h = name-true (rows a) h
 sorted-true rows (Inv a) h = key-true (rows a) h
-sorted-true rows (Ltk a b) h = let k = both (is-name (rows a)) (is-name (rows b)) h in (name-true (rows a) (k .0), name-true (rows b) (k .1))
+sorted-true rows (Ltk a b) h =
+    let k = both (is-name (rows a)) (is-name (rows b)) h in (name-true (rows a) (k .0), name-true (rows b) (k .1))
 sorted-true rows (Pair a b) h = tt
 sorted-true rows (Enc a b) h = is-mesg-false (rows b) h
 sorted-true rows (Hash a) h = tt
@@ -120,7 +121,8 @@ sorted-true rows (Hash a) h = tt
 pub alike-self : (r : Row) → T (alike r r)
 unfolding alike
 alike-self r =
-    pair-up (eqb (kind r) (kind r)) _ (eqb-refl (kind r)) (pair-up (eqb (first r) (first r)) _ (eqb-refl (first r)) (eqb-refl (second r)))
+    pair-up (eqb (kind r) (kind r)) _ (eqb-refl (kind r)) (pair-up (eqb (first r) (first r)) _ (eqb-refl (first r))
+    (eqb-refl (second r)))
 
 -- a row is the row of its three bytes
 pub row-of-bytes : (r : Row) → row-of-kind (kind r) (first r) (second r) ≡ some r

@@ -40,10 +40,12 @@ module _ {M : Type 0} where
   in-trace (d ∷ es) s p (suc i) q z h = List·Memᴰ·tail (in-trace es s (suc p) i q (omega arith) h)
 
   each-trace : (P : Happening M → Type 0) (es : List (Event M)) (s p : ℕ)
-      → ((i q : ℕ) (e : Event M) → q ≡ p + i → getElem? es i ≡ some e → P (record { strand = s; position = q }, e)) → Each P (trace-events s p es)
+      → ((i q : ℕ) (e : Event M) → q ≡ p + i → getElem? es i ≡ some e → P (record { strand = s; position = q }, e)) → Each P
+      (trace-events s p es)
   unfolding trace-events
   each-trace P [] s p f = each-nil P
-  each-trace P (d ∷ es) s p f = each-cons P (f 0 p d (omega arith) refl) (each-trace P es s (suc p) (λ i q e z h. f (suc i) q e (omega arith) h))
+  each-trace P (d ∷ es) s p f = each-cons P (f 0 p d (omega arith) refl)
+      (each-trace P es s (suc p) (λ i q e z h. f (suc i) q e (omega arith) h))
 
   in-events : (ts : List (List (Event M))) (s i j q : ℕ) {e : Event M} → q ≡ s + i → getElem? (getD ts i []) j ≡ some e
       → List·Memᴰ (record { strand = q; position = j }, e) (events-from s ts)
@@ -51,15 +53,18 @@ module _ {M : Type 0} where
   in-events [] s i j q z h = absurd (not-there h)
   in-events (t ∷ ts) s zero j q {e} z h =
       let y : q ≡ s = omega arith in
-      Memᴰ·append-left (events-from (suc s) ts) (Memᴰ·cast (λ i. (record { strand = y i; position = j }, e)) (in-trace t s 0 j j (omega arith) h))
+      Memᴰ·append-left (events-from (suc s) ts) (Memᴰ·cast (λ i. (record { strand = y i; position = j }, e))
+      (in-trace t s 0 j j (omega arith) h))
   in-events (t ∷ ts) s (suc i) j q z h = Memᴰ·append-right (trace-events s 0 t) (in-events ts (suc s) i j q (omega arith) h)
 
   each-event : (P : Happening M → Type 0) (ts : List (List (Event M))) (s : ℕ)
-      → ((i j q : ℕ) (e : Event M) → q ≡ s + i → getElem? (getD ts i []) j ≡ some e → P (record { strand = q; position = j }, e)) → Each P (events-from s ts)
+      → ((i j q : ℕ) (e : Event M) → q ≡ s + i → getElem? (getD ts i []) j ≡ some e → P (record { strand = q; position = j }, e))
+      → Each P (events-from s ts)
   unfolding events-from
   each-event P [] s f = each-nil P
   each-event P (t ∷ ts) s f =
-      each-append P (trace-events s 0 t) (each-trace P t s 0 (λ i q e z h. let y : q ≡ i = omega arith in rw y (f 0 i s e (omega arith) h)))
+      each-append P (trace-events s 0 t) (each-trace P t s 0
+      (λ i q e z h. let y : q ≡ i = omega arith in rw y (f 0 i s e (omega arith) h)))
       (each-event P ts (suc s) (λ i j q e z h. f (suc i) j q e (omega arith) h))
 
   -- the list has the events, each at its node
@@ -90,7 +95,8 @@ module _ {M N : Type 0} (f : M → N) (K : Skeleton M) where
   trace-means s = List·getD-map (map (on-message f)) (K .strands) s []
 
   pub at-means : {n : Node} {e : Event M} → At K n e → At (means f K) n (on-message f e)
-  at-means {n} a = record { is = rw (trace-means (n .strand)) (at-map (on-message f) (trace K (n .strand)) (n .position) (a .is)) }
+  at-means {n} a =
+      record { is = rw (trace-means (n .strand)) (at-map (on-message f) (trace K (n .strand)) (n .position) (a .is)) }
 
   pub at-meant : {n : Node} {d : Event N} → At (means f K) n d → (e : Event M) × At K n e × (on-message f e ≡ d)
   at-meant {n} a =

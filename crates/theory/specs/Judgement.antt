@@ -52,11 +52,13 @@ module _ (rows : List Row) where
   unfolding dec-below row-same
   inverse-test i = dec-below (λ j. row rows j ≡ Inv i) (length rows) (λ j l. row-same (row rows j) (Inv i))
 
-  unfoldable pub lacking-or : (i : ℕ) → i < length rows → Dec (is-key (row rows i) ≡ true) → Dec (Below (λ j. row rows j ≡ Inv i) (length rows))
+  unfoldable pub lacking-or : (i : ℕ) → i < length rows → Dec (is-key (row rows i) ≡ true)
+      → Dec (Below (λ j. row rows j ≡ Inv i) (length rows))
       → Lacking rows i ⊎ (¬ Lacking rows i)
   lacking-or i l (no n) d = inr (λ k. n (k .a-key))
   lacking-or i l (yes k) (yes b) = inr (λ g. g .no-inverse (b .which) (b .inside) (b .holds))
-  lacking-or i l (yes k) (no n) = inl (record { a-term = l; a-key = k; no-inverse = λ j h e. n (record { which = j; inside = h; holds = e }) })
+  lacking-or i l (yes k) (no n) =
+      inl (record { a-term = l; a-key = k; no-inverse = λ j h e. n (record { which = j; inside = h; holds = e }) })
 
 module _ (s : Sheet) (raw : Raw s) (none-lacks : (i : ℕ) → ¬ Lacking (s .rows) i) where
   pub good-of : Good (s .rows)
@@ -68,11 +70,17 @@ module _ (s : Sheet) (raw : Raw s) (none-lacks : (i : ℕ) → ¬ Lacking (s .ro
         inverses = λ i l k. go i l k (inverse-test (s .rows) i);
       }
     where
-      go : (i : ℕ) → i < length (s .rows) → IsKey (row (s .rows) i) → Dec (Below (λ j. row (s .rows) j ≡ Inv i) (length (s .rows)))
+      go : (i : ℕ) → i < length (s .rows) → IsKey (row (s .rows) i)
+          → Dec (Below (λ j. row (s .rows) j ≡ Inv i) (length (s .rows)))
           → (j : ℕ) × (j < length (s .rows)) × (row (s .rows) j ≡ Inv i)
       go i l k (yes b) = (b .which, b .inside, b .holds)
       go i l k (no n) =
-          absurd (none-lacks i (record { a-term = l; a-key = key-is k; no-inverse = λ j h e. n (record { which = j; inside = h; holds = e }) }))
+          absurd (none-lacks i (record {
+            a-term = l;
+            a-key = key-is k;
+            no-inverse = λ j h e. n
+                (record { which = j; inside = h; holds = e });
+          }))
 
 -- There is a verdict
 
@@ -96,18 +104,28 @@ module _ (s : Sheet) (raw : Raw s) where
     drawn K = record { rows = s .rows; skeleton = K }
 
     unfoldable pub right-or-not : (k : ℕ) (K : Skeleton ℕ) (e : getElem? (s .skeletons) k ≡ some K)
-        → FaultAt (s .rows) (good-of s raw none-lacks) K (raw .drawings k (drawn K) (record { rows = refl; skeleton = e })) ⊎ Right (drawn K)
+        → FaultAt (s .rows) (good-of s raw none-lacks) K (raw .drawings k (drawn K) (record { rows = refl; skeleton = e }))
+        ⊎ Right (drawn K)
         → FaultyAt k ⊎ RightAt k
-    right-or-not k K e (inl f) = inl (record { drawing = drawn K; has = record { rows = refl; skeleton = e }; number = f .number; place = f .place; fault = f .is })
-    right-or-not k K e (inr r) = inr (λ D h. let q : drawn K ≡ D = one-drawing k s (drawn K) D (record { rows = refl; skeleton = e }) h in rw q at r)
+    right-or-not k K e (inl f) = inl (record {
+      drawing = drawn K;
+      has = record { rows = refl; skeleton = e };
+      number = f .number;
+      place = f .place;
+      fault = f .is;
+    })
+    right-or-not k K e (inr r) =
+        inr (λ D h. let q : drawn K ≡ D = one-drawing k s (drawn K) D (record { rows = refl; skeleton = e }) h in rw q at r)
 
     unfoldable pub judge-at : (k : ℕ) (o : Option (Skeleton ℕ)) → getElem? (s .skeletons) k ≡ o → FaultyAt k ⊎ RightAt k
     unfolding right-or-not judge-skeleton
     judge-at k none e = inr (λ D h. let q = back e ∙ h .skeleton in let z : _≡_ {A = ℕ} 0 1 = cc in absurd (omega arith))
     judge-at k (some K) e =
-        right-or-not k K e (judge-skeleton (s .rows) (good-of s raw none-lacks) K (raw .drawings k (drawn K) (record { rows = refl; skeleton = e })))
+        right-or-not k K e (judge-skeleton (s .rows) (good-of s raw none-lacks) K
+        (raw .drawings k (drawn K) (record { rows = refl; skeleton = e })))
 
-    unfoldable pub judge-skeletons : First FaultyAt RightAt (length (s .skeletons)) ⊎ ((k : ℕ) → k < length (s .skeletons) → RightAt k) → Judged
+    unfoldable pub judge-skeletons : First FaultyAt RightAt (length (s .skeletons))
+        ⊎ ((k : ℕ) → k < length (s .skeletons) → RightAt k) → Judged
     judge-skeletons (inl f) =
         record {
           verdict = refused (record { number = f .holds .number; place = f .holds .place; skeleton = f .which });
@@ -116,24 +134,34 @@ module _ (s : Sheet) (raw : Raw s) where
     judge-skeletons (inr g) =
         record { verdict = accepted s; is = Acc.right none-lacks (λ k D h. g k (inside-list (s .skeletons) k (h .skeleton)) D h) }
 
-  unfoldable pub judge-terms : First (Lacking (s .rows)) (λ i. ¬ Lacking (s .rows) i) (length (s .rows)) ⊎ ((i : ℕ) → i < length (s .rows) → ¬ Lacking (s .rows) i) → Judged
+  unfoldable pub judge-terms : First (Lacking (s .rows)) (λ i. ¬ Lacking (s .rows) i) (length (s .rows))
+      ⊎ ((i : ℕ) → i < length (s .rows) → ¬ Lacking (s .rows) i) → Judged
   unfolding judge-skeletons judge-at first-of
-  judge-terms (inl f) = record { verdict = refused (record { number = 9; place = f .which; skeleton = 0 }); is = lacks (f .holds) (f .before) }
+  judge-terms (inl f) =
+      record { verdict = refused (record { number = 9; place = f .which; skeleton = 0 }); is = lacks (f .holds) (f .before) }
   judge-terms (inr g) =
       let none-lacks : (i : ℕ) → ¬ Lacking (s .rows) i = λ i h. g i (h .a-term) h in
-      judge-skeletons none-lacks (first-of FaultyAt RightAt (length (s .skeletons)) (λ k l. judge-at none-lacks k (getElem? (s .skeletons) k) refl))
+      judge-skeletons none-lacks (first-of FaultyAt RightAt (length (s .skeletons))
+      (λ k l. judge-at none-lacks k (getElem? (s .skeletons) k) refl))
 
   unfoldable pub judge : Judged
   unfolding judge-terms first-of lacking-or is-true is-key kind inverse-test
   judge =
-      judge-terms (first-of (Lacking (s .rows)) (λ i. ¬ Lacking (s .rows) i) (length (s .rows)) (λ i l. lacking-or (s .rows) i l (is-true (is-key (row (s .rows) i))) (inverse-test (s .rows) i)))
+      judge-terms (first-of (Lacking (s .rows)) (λ i. ¬ Lacking (s .rows) i) (length (s .rows))
+      (λ i l. lacking-or (s .rows) i l (is-true (is-key (row (s .rows) i))) (inverse-test (s .rows) i)))
 
 -- There is no second
 
 -- an atom that is carried has its variables in an event
 carried-present : {K : Skeleton Term} {t : Term} → Carried K t → ¬ Missing K t
 carried-present c u =
-    u .in-no-event (record { node = c .node; event = c .event; at = c .at; occurs = occurs-after (u .occurs) (carried-occurs (c .carries)) })
+    u .in-no-event (record {
+      node = c .node;
+      event = c .event;
+      at = c .at;
+      occurs = occurs-after (u .occurs)
+          (carried-occurs (c .carries));
+    })
 
 record SameFault (m n a b : ℕ) : Type 0 where
   number : m ≡ n
@@ -171,13 +199,15 @@ module _ (D : Drawing) where
   fault-one (carried s u) (missing t v) =
       let e = non-turns s t (λ r. r .uncarried u) (λ r. r .present v) in
       absurd (carried-present (rw e at u) v)
-  fault-one (carried s u) (carried t v) = record { number = refl; place = non-turns s t (λ r. r .uncarried u) (λ r. r .uncarried v) }
+  fault-one (carried s u) (carried t v) =
+      record { number = refl; place = non-turns s t (λ r. r .uncarried u) (λ r. r .uncarried v) }
   fault-one (carried s u) (not-one t v) = absurd (t .nons _ (s .listed) .uncarried u)
   fault-one (carried s u) (early t o v) = absurd (t .nons _ (s .listed) .uncarried u)
   fault-one (not-one s u) (a-cycle d) = absurd (s .acyclic d)
   fault-one (not-one s u) (missing t v) = absurd (s .nons _ (t .listed) .present v)
   fault-one (not-one s u) (carried t v) = absurd (s .nons _ (t .listed) .uncarried v)
-  fault-one (not-one s u) (not-one t v) = record { number = refl; place = uniq-turns s t (λ r. u (r .one-strand)) (λ r. v (r .one-strand)) }
+  fault-one (not-one s u) (not-one t v) =
+      record { number = refl; place = uniq-turns s t (λ r. u (r .one-strand)) (λ r. v (r .one-strand)) }
   fault-one (not-one s u) (early t o v) =
       let e = uniq-turns s t (λ r. u (r .one-strand)) (λ r. r .in-time v) in
       absurd (u (rw e o))
@@ -219,7 +249,8 @@ module _ (s : Sheet) where
       go (no b) (no c) = omega arith
 
   pub accepting-one : {v w : Verdict} → Accepting s v → Accepting s w → v ≡ w
-  accepting-one (lacks {i} h f) (lacks {i = j} k g) = ap (λ p. refused (record { number = 9; place = p; skeleton = 0 })) (same-lack i j h k f g)
+  accepting-one (lacks {i} h f) (lacks {i = j} k g) =
+      ap (λ p. refused (record { number = 9; place = p; skeleton = 0 })) (same-lack i j h k f g)
   accepting-one (lacks h f) (faulty n _ _ _) = absurd (n _ h)
   accepting-one (lacks h f) (Acc.right n _) = absurd (n _ h)
   accepting-one (faulty n _ _ _) (lacks h f) = absurd (n _ h)
@@ -247,10 +278,12 @@ module _ (K : Skeleton Term) where
     where
       go : Dec (m .position < n .position) → Dec (n .position < m .position) → m ≡ n
       go (yes h) _ =
-          let a : At K (record { strand = n .strand; position = m .position }) (send (o .said)) = record { is = rw e at (o .at .is) } in
+          let a : At K (record { strand = n .strand; position = m .position }) (send (o .said)) =
+          record { is = rw e at (o .at .is) } in
           absurd (p .first (m .position) (send (o .said)) h a (o .carries))
       go (no h) (yes k) =
-          let a : At K (record { strand = m .strand; position = n .position }) (send (p .said)) = record { is = rw (← e) at (p .at .is) } in
+          let a : At K (record { strand = m .strand; position = n .position }) (send (p .said)) =
+          record { is = rw (← e) at (p .at .is) } in
           absurd (o .first (n .position) (send (p .said)) k a (p .carries))
       go (no h) (no k) =
           let q : m .position ≡ n .position = omega arith in
@@ -289,7 +322,8 @@ module _ (rows : List Row) (good : Good rows) (K : Skeleton ℕ) (ok : OnTable r
         non-occurs = λ t m x v o.
             let (i, l, q) = Memᴰ·of-map (term rows) (K .non) m in
             let p : Occurs x (term rows i) = rw q o in
-            occurs-stable i (ok .nons i l) x p (λ n. r .nons i l .present (record { part = x; variable = v; occurs = p; in-no-event = n }));
+            occurs-stable i (ok .nons i l) x p (λ n. r .nons i l .present
+            (record { part = x; variable = v; occurs = p; in-no-event = n }));
         an-origin = λ t m.
             let (i, l, q) = Memᴰ·of-map (term rows) (K .uniq) m in
             let o = r .uniqs i l .one-strand in
@@ -299,11 +333,20 @@ module _ (rows : List Row) (good : Good rows) (K : Skeleton ℕ) (ok : OnTable r
             let o = r .uniqs i l .one-strand in
             let x′ : Origin L (term rows i) a = rw q x in
             let y′ : Origin L (term rows i) b = rw q y in
-            same-origin L a b x y (o .only (a .strand) (record { position = a .position; origin = x′ }) ∙ back (o .only (b .strand) (record { position = b .position; origin = y′ })));
+            same-origin L a b x y (o .only (a .strand) (record { position = a .position; origin = x′ }) ∙ back
+            (o .only (b .strand) (record { position = b .position; origin = y′ })));
         after-origin = λ t m a b u x y c.
             let (i, l, q) = Memᴰ·of-map (term rows) (K .uniq) m in
             before-stable a b u y λ n.
-            r .uniqs i l .in-time (record { source = a; origin = rw q x; node = b; heard = u; at = y; carries = rw q c; not-after = n });
+            r .uniqs i l .in-time (record {
+              source = a;
+              origin = rw q x;
+              node = b;
+              heard = u;
+              at = y;
+              carries = rw q c;
+              not-after = n;
+            });
       }
 
 pub accepted-sound : (s : Sheet) → Raw s → Accepting s (accepted s) → Sound s

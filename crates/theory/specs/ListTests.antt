@@ -33,7 +33,8 @@ module _ {A : Type 0} (p : A → Bool) where
   pub some-found : (l : List A) → T (some-of p l) → (x : A) × List·Memᴰ x l × T (p x)
   unfolding some-of
   some-found (y ∷ l) h =
-      ⊎-elim (λ k. (y, List·Memᴰ·head refl, k)) (λ k. let (x, m, q) = some-found l k in (x, List·Memᴰ·tail m, q)) (or-cases (p y) (some-of p l) h)
+      ⊎-elim (λ k. (y, List·Memᴰ·head refl, k)) (λ k. let (x, m, q) = some-found l k in (x, List·Memᴰ·tail m, q))
+      (or-cases (p y) (some-of p l) h)
 
   pub finds-some : (l : List A) {x : A} → List·Memᴰ x l → T (p x) → T (some-of p l)
   unfolding some-of
@@ -44,7 +45,8 @@ module _ {A : Type 0} (p : A → Bool) where
   unfolding keep
   keeps (y ∷ l) {x} m h = go (p y) refl m (λ k. keeps l k h)
     where
-      go : (b : Bool) → p y ≡ b → List·Memᴰ x (y ∷ l) → (List·Memᴰ x l → List·Memᴰ x (keep l)) → List·Memᴰ x (cond b (y ∷ keep l) (keep l))
+      go : (b : Bool) → p y ≡ b → List·Memᴰ x (y ∷ l) → (List·Memᴰ x l → List·Memᴰ x (keep l))
+          → List·Memᴰ x (cond b (y ∷ keep l) (keep l))
       go true e (List·Memᴰ·head q) f = List·Memᴰ·head q
       go true e (List·Memᴰ·tail k) f = List·Memᴰ·tail (f k)
       go false e (List·Memᴰ·head q) f = absurd (rw (q, e) at h)

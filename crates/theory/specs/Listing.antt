@@ -27,10 +27,12 @@ use Rattle.theory.specs.Answering.{Meets, Had, had, meets-skeleton}
 -- Rising
 
 module _ {A : Type 0} (before : A → A → Type 0) where
-  rising-append : (l m : List A) → Rising before l → Rising before m → ((x y : A) → List·Memᴰ x l → List·Memᴰ y m → before x y) → Rising before (l ++ m)
+  rising-append : (l m : List A) → Rising before l → Rising before m → ((x y : A) → List·Memᴰ x l → List·Memᴰ y m → before x y)
+      → Rising before (l ++ m)
   rising-append [] m r s f = s
   rising-append (x ∷ l) m (more h r) s f =
-      more (λ y q. ⊎-elim (h y) (λ k. f x y (List·Memᴰ·head refl) k) (List·Memᴰ·append-cases l q)) (rising-append l m r s (λ a b p q. f a b (List·Memᴰ·tail p) q))
+      more (λ y q. ⊎-elim (h y) (λ k. f x y (List·Memᴰ·head refl) k) (List·Memᴰ·append-cases l q))
+      (rising-append l m r s (λ a b p q. f a b (List·Memᴰ·tail p) q))
 
   rising-keep : (p : A → Bool) (l : List A) → Rising before l → Rising before (keep p l)
   unfolding keep
@@ -44,7 +46,8 @@ module _ {A : Type 0} (before : A → A → Type 0) where
 rising-longer : (b : ℕ) (l : List (List ℕ)) → Rising InDictionary l → Rising InDictionary (map (λ m. b ∷ m) l)
 rising-longer b [] r = none
 rising-longer b (x ∷ l) (more h r) =
-    more (λ y q. let (m, k, e) = Memᴰ·of-map (λ m. b ∷ m) l q in let d : InDictionary (b ∷ x) (b ∷ m) = later (h m k) in rw e at d) (rising-longer b l r)
+    more (λ y q. let (m, k, e) = Memᴰ·of-map (λ m. b ∷ m) l q in let d : InDictionary (b ∷ x) (b ∷ m) = later (h m k) in rw e
+    at d) (rising-longer b l r)
 
 record Starts (b : ℕ) (x : List ℕ) : Type 0 where
   head : ℕ
@@ -127,13 +130,15 @@ module _ (rows : List Row) (good : Good rows) (A B : Skeleton ℕ) (okA : OnTabl
   in-order : Rising InDictionary (maps rows A B)
   unfolding maps
   in-order =
-      rising-keep InDictionary (λ l. map-test rows A B (λ s. getD l s 0)) (candidates (length (A .strands)) (length (B .strands))) (rising-candidates (length (A .strands)) (length (B .strands)))
+      rising-keep InDictionary (λ l. map-test rows A B (λ s. getD l s 0)) (candidates (length (A .strands)) (length (B .strands)))
+      (rising-candidates (length (A .strands)) (length (B .strands)))
 
   pub the-maps : TheMaps A′ B′ (maps rows A B)
   the-maps =
       record {
         rising = in-order;
-        members = λ l. let h = listed-iff rows good A B okA okB occur l in (λ m. listed-map l (h .0 m), λ u. h .1 (map-listed l u));
+        members = λ l. let h = listed-iff rows good A B okA okB occur l in
+            (λ m. listed-map l (h .0 m), λ u. h .1 (map-listed l u));
       }
 
 -- The question
@@ -157,7 +162,8 @@ module _ (source target : ℕ) (s : Sheet) where
         let good : Good (x .0 .rows) = rw (h .from .rows) at (sound .good) in
         let e : x .1 .rows ≡ x .0 .rows = back (h .to .rows) ∙ h .from .rows in
         let okB : OnTable (x .0 .rows) (x .1 .skeleton) = rw e at (sound .drawings target (x .1) (h .to)) in
-        let t = the-maps (x .0 .rows) good (x .0 .skeleton) (x .1 .skeleton) (sound .drawings source (x .0) (h .from)) okB (skeleton-atoms (meant (x .0)) (sound .skeletons source (x .0) (h .from))) in
+        let t = the-maps (x .0 .rows) good (x .0 .skeleton) (x .1 .skeleton) (sound .drawings source (x .0) (h .from)) okB
+        (skeleton-atoms (meant (x .0)) (sound .skeletons source (x .0) (h .from))) in
         rw e t
 
     module _ (lent : List ℕ) where
@@ -168,7 +174,8 @@ module _ (source target : ℕ) (s : Sheet) where
           (λ l. record { maps = maps-of x; all = maps-are x h; fits = l })
           (λ r. let e : r .maps ≡ maps-of x = maps-one (r .all) (maps-are x h) in rw e at (r .fits))
 
-      unfoldable pub list-had : Had (HasSkeletons source target) (ListRoom source target lent) (SaysList source target lent) lent (Verdict.accepted s)
+      unfoldable pub list-had : Had (HasSkeletons source target) (ListRoom source target lent) (SaysList source target lent) lent
+          (Verdict.accepted s)
       unfolding had room-test meets-skeletons maps-of over end-to-end
       list-had =
           had (HasSkeletons source target) (ListRoom source target lent) (SaysList source target lent) lent s room-test

@@ -40,7 +40,8 @@ module _ (rows : List Row) (good : Good rows) (σ : Subst) where
   unfolding flip
   flipped k = flip-on-atom σ (asymmetric true k)
 
-  inverse-image : (k : Asym) → OnSheet rows (atom (on-atom σ (asymmetric true k))) → OnSheet rows (atom (on-atom σ (asymmetric false k)))
+  inverse-image : (k : Asym) → OnSheet rows (atom (on-atom σ (asymmetric true k)))
+      → OnSheet rows (atom (on-atom σ (asymmetric false k)))
   unfolding inv
   inverse-image k s = rw (flipped k) at (on-inverse rows good (atom (on-atom σ (asymmetric true k))) s)
 
@@ -118,12 +119,14 @@ module _ (rows : List Row) (good : Good rows) (A B : Skeleton ℕ) (okA : OnTabl
     shown-no n (yes p) q = absurd (q p)
     shown-no n (no p) q = refl
 
-    at-image : (i : ℕ) → i < length rows → (l : Dec (i < length rows)) → (h : i < length rows) × (image-if i l ≡ shown-as (number rows (apply σ (term rows i))) (variable-in i h))
+    at-image : (i : ℕ) → i < length rows → (l : Dec (i < length rows))
+        → (h : i < length rows) × (image-if i l ≡ shown-as (number rows (apply σ (term rows i))) (variable-in i h))
     unfolding image-if
     at-image i h (yes l) = (l, refl)
     at-image i h (no n) = absurd (n h)
 
-    image-at : (i : ℕ) → i < length rows → (h : i < length rows) × (getD images-of i 255 ≡ shown-as (number rows (apply σ (term rows i))) (variable-in i h))
+    image-at : (i : ℕ) → i < length rows
+        → (h : i < length rows) × (getD images-of i 255 ≡ shown-as (number rows (apply σ (term rows i))) (variable-in i h))
     unfolding images-of
     image-at i h =
         let (l, e) = at-image i h (less i (length rows)) in
@@ -140,7 +143,8 @@ module _ (rows : List Row) (good : Good rows) (A B : Skeleton ℕ) (okA : OnTabl
         let g = v .occurs in
         let (d, b, _) = r₂ (g .node) (g .event) (g .at) in
         let (e, c, q) = at-meant (term rows) B b in
-        let m : term rows (message e) ≡ apply σ (message (g .event)) = back (message-means rows good B okB e) ∙ (ap message q ∙ back (r₃ (g .node) (g .event) d (g .at) b)) in
+        let m : term rows (message e) ≡ apply σ (message (g .event)) = back (message-means rows good B okB e)
+        ∙ (ap message q ∙ back (r₃ (g .node) (g .event) d (g .at) b)) in
         part-image rows good σ (g .occurs) (record { which = message e; inside = okB .messages _ e c; means = m })
 
     pub images-are : (σ : Subst) → Rule2 A′ B′ f → Rule3 A′ B′ f σ → Images rows A′ σ (images-of σ)
@@ -149,14 +153,17 @@ module _ (rows : List Row) (good : Good rows) (A B : Skeleton ℕ) (okA : OnTabl
           full = full;
           inside = λ i h v. rw (is-number i h v) (number-inside rows good (image-on σ r₂ r₃ (term rows i) v));
           image = λ i h v. rw (is-number i h v) (term-number rows good (image-on σ r₂ r₃ (term rows i) v));
-          elsewhere = λ i h n. let (l, e) = image-at σ i h in e ∙ shown-no σ (number rows (apply σ (term rows i))) (variable-in σ i l) n;
+          elsewhere = λ i h n. let (l, e) = image-at σ i h in e ∙ shown-no σ (number rows (apply σ (term rows i)))
+              (variable-in σ i l) n;
         }
       where
         full : length (images-of σ) ≡ length rows
         full = images-full σ
 
-        is-number : (i : ℕ) → i < length rows → SourceVariable A′ (term rows i) → getD (images-of σ) i 255 ≡ number rows (apply σ (term rows i))
-        is-number i h v = let (l, e) = image-at σ i h in e ∙ shown-yes σ (number rows (apply σ (term rows i))) (variable-in σ i l) v
+        is-number : (i : ℕ) → i < length rows → SourceVariable A′ (term rows i)
+            → getD (images-of σ) i 255 ≡ number rows (apply σ (term rows i))
+        is-number i h v =
+            let (l, e) = image-at σ i h in e ∙ shown-yes σ (number rows (apply σ (term rows i))) (variable-in σ i l) v
 
     -- The rules, one after another
 
@@ -183,7 +190,8 @@ module _ (rows : List Row) (good : Good rows) (A B : Skeleton ℕ) (okA : OnTabl
     unfoldable pub dec₁ : Dec (OneByteEach A′ B′ bytes)
     unfolding dec-to dec-both dec-of test₁
     dec₁ =
-        dec-to (dec-both (dec-of (eqb (length bytes) (length (A .strands))) (same-number (length bytes) (length (A .strands)))) (dec-of (test₁ rows A B f) (rule₁-iff rows good A B okA okB f))) one-byte of-one-byte
+        dec-to (dec-both (dec-of (eqb (length bytes) (length (A .strands))) (same-number (length bytes) (length (A .strands))))
+        (dec-of (test₁ rows A B f) (rule₁-iff rows good A B okA okB f))) one-byte of-one-byte
 
     unfoldable pub dec₂ : Dec (Rule2 A′ B′ f)
     unfolding dec-of test₂
@@ -194,11 +202,13 @@ module _ (rows : List Row) (good : Good rows) (A B : Skeleton ℕ) (okA : OnTabl
       pub rule : Rule3 A′ B′ f σ
 
     pub served : Rule2 A′ B′ f → T (serves rows (asked rows A B f)) → Rule3 A′ B′ f the
-    served r₂ t = granted-rule₃ rows good A B okA okB f r₂ the (serves-granted rows good (asked rows A B f) (wishes-inside rows good A B okA okB f r₂) t)
+    served r₂ t = granted-rule₃ rows good A B okA okB f r₂ the
+        (serves-granted rows good (asked rows A B f) (wishes-inside rows good A B okA okB f r₂) t)
 
     pub serving : Rule2 A′ B′ f → Substituted → T (serves rows (asked rows A B f))
     serving r₂ s =
-        granted-serves rows good (asked rows A B f) (wishes-inside rows good A B okA okB f r₂) (s .σ) (rule₃-granted rows good A B okA okB f r₂ (s .σ) (s .rule))
+        granted-serves rows good (asked rows A B f) (wishes-inside rows good A B okA okB f r₂) (s .σ)
+        (rule₃-granted rows good A B okA okB f r₂ (s .σ) (s .rule))
 
     unfoldable pub dec₃ : Rule2 A′ B′ f → Dec (Rule3 A′ B′ f the)
     unfolding dec-of serves asked
@@ -221,50 +231,107 @@ module _ (rows : List Row) (good : Good rows) (A B : Skeleton ℕ) (okA : OnTabl
       broken : (k : ℕ) → FirstBroken A′ B′ bytes k → MapJudged
       holds : Kept A′ B′ bytes 6 the → Images rows A′ the (images-of the) → MapJudged
 
-    pub first-broken : (m : ℕ) → suc m ≤ 6 → {σ : Subst} → Kept A′ B′ bytes m σ → ¬ Upto A′ B′ bytes (suc m) → FirstBroken A′ B′ bytes (suc m)
+    pub first-broken : (m : ℕ) → suc m ≤ 6 → {σ : Subst} → Kept A′ B′ bytes m σ → ¬ Upto A′ B′ bytes (suc m)
+        → FirstBroken A′ B′ bytes (suc m)
     first-broken m l {σ} k n =
         record { rule = l; hold = λ j h. upto-less A′ B′ bytes j m (omega arith) (record { σ = σ; kept = k }); breaks = n }
 
     pub kept₀ : Kept A′ B′ bytes 0 plain
     kept₀ =
-        record { strands = λ h. absurd (omega arith); directions = λ h. absurd (omega arith); messages = λ h. absurd (omega arith); order = λ h. absurd (omega arith); non = λ h. absurd (omega arith); uniq = λ h. absurd (omega arith) }
+        record {
+          strands = λ h. absurd (omega arith);
+          directions = λ h. absurd (omega arith);
+          messages = λ h. absurd
+              (omega arith);
+          order = λ h. absurd (omega arith);
+          non = λ h. absurd (omega arith);
+          uniq = λ h. absurd (omega arith);
+        }
 
     module _ (r₁ : OneByteEach A′ B′ bytes) where
       pub kept₁ : Kept A′ B′ bytes 1 plain
       kept₁ =
-          record { strands = λ h. r₁; directions = λ h. absurd (omega arith); messages = λ h. absurd (omega arith); order = λ h. absurd (omega arith); non = λ h. absurd (omega arith); uniq = λ h. absurd (omega arith) }
+          record {
+            strands = λ h. r₁;
+            directions = λ h. absurd (omega arith);
+            messages = λ h. absurd (omega arith);
+            order = λ h.
+                absurd (omega arith);
+            non = λ h. absurd (omega arith);
+            uniq = λ h. absurd (omega arith);
+          }
 
       module _ (r₂ : Rule2 A′ B′ f) where
         pub kept₂ : Kept A′ B′ bytes 2 plain
         kept₂ =
-            record { strands = λ h. r₁; directions = λ h. r₂; messages = λ h. absurd (omega arith); order = λ h. absurd (omega arith); non = λ h. absurd (omega arith); uniq = λ h. absurd (omega arith) }
+            record {
+              strands = λ h. r₁;
+              directions = λ h. r₂;
+              messages = λ h. absurd (omega arith);
+              order = λ h. absurd
+                  (omega arith);
+              non = λ h. absurd (omega arith);
+              uniq = λ h. absurd (omega arith);
+            }
 
         module _ (r₃ : Rule3 A′ B′ f the) where
           pub kept₃ : Kept A′ B′ bytes 3 the
           kept₃ =
-              record { strands = λ h. r₁; directions = λ h. r₂; messages = λ h. r₃; order = λ h. absurd (omega arith); non = λ h. absurd (omega arith); uniq = λ h. absurd (omega arith) }
+              record {
+                strands = λ h. r₁;
+                directions = λ h. r₂;
+                messages = λ h. r₃;
+                order = λ h. absurd (omega arith);
+                non = λ h.
+                    absurd (omega arith);
+                uniq = λ h. absurd (omega arith);
+              }
 
           module _ (r₄ : Rule4 A′ B′ f) where
             pub kept₄ : Kept A′ B′ bytes 4 the
             kept₄ =
-                record { strands = λ h. r₁; directions = λ h. r₂; messages = λ h. r₃; order = λ h. r₄; non = λ h. absurd (omega arith); uniq = λ h. absurd (omega arith) }
+                record {
+                  strands = λ h. r₁;
+                  directions = λ h. r₂;
+                  messages = λ h. r₃;
+                  order = λ h. r₄;
+                  non = λ h. absurd
+                      (omega arith);
+                  uniq = λ h. absurd (omega arith);
+                }
 
             -- rules 5 and 6 do not hang on the substitution
             pub upto₅ : Upto A′ B′ bytes 5 → Rule5 A′ B′ f the
             unfolding Rule5
             upto₅ u t k =
-                rw (atoms-agree A′ B′ f the (u .σ) r₂ r₃ (u .kept .messages (omega arith)) t (occur .non t k)) (u .kept .non (omega arith) t k)
+                rw (atoms-agree A′ B′ f the (u .σ) r₂ r₃ (u .kept .messages (omega arith)) t (occur .non t k))
+                (u .kept .non (omega arith) t k)
 
             pub upto₆ : Upto A′ B′ bytes 6 → Rule6 A′ B′ f the
             unfolding Rule6
             upto₆ u t k =
-                rw (atoms-agree A′ B′ f the (u .σ) r₂ r₃ (u .kept .messages (omega arith)) t (occur .uniq t k)) (u .kept .uniq (omega arith) t k)
+                rw (atoms-agree A′ B′ f the (u .σ) r₂ r₃ (u .kept .messages (omega arith)) t (occur .uniq t k))
+                (u .kept .uniq (omega arith) t k)
 
             unfoldable pub judge₆ : Rule5 A′ B′ f the → Dec (Rule6 A′ B′ f the) → MapJudged
             judge₆ r₅ (yes r₆) =
-                holds (record { strands = λ h. r₁; directions = λ h. r₂; messages = λ h. r₃; order = λ h. r₄; non = λ h. r₅; uniq = λ h. r₆ }) (images-are the r₂ r₃)
+                holds (record {
+                  strands = λ h. r₁;
+                  directions = λ h. r₂;
+                  messages = λ h. r₃;
+                  order = λ h. r₄;
+                  non = λ h. r₅;
+                  uniq = λ h. r₆;
+                }) (images-are the r₂ r₃)
             judge₆ r₅ (no n) =
-                broken 6 (first-broken 5 (omega arith) (record { strands = λ h. r₁; directions = λ h. r₂; messages = λ h. r₃; order = λ h. r₄; non = λ h. r₅; uniq = λ h. absurd (omega arith) }) (λ u. n (upto₆ u)))
+                broken 6 (first-broken 5 (omega arith) (record {
+                  strands = λ h. r₁;
+                  directions = λ h. r₂;
+                  messages = λ h. r₃;
+                  order = λ h. r₄;
+                  non = λ h. r₅;
+                  uniq = λ h. absurd (omega arith);
+                }) (λ u. n (upto₆ u)))
 
             unfoldable pub judge₅ : Dec (Rule5 A′ B′ f the) → MapJudged
             unfolding judge₆ dec₆
@@ -300,7 +367,8 @@ module _ (rows : List Row) (good : Good rows) (A B : Skeleton ℕ) (okA : OnTabl
 
 -- The question
 
-module _ (source target : ℕ) (bytes lent : List ℕ) (s : Sheet) (sound : Sound s) (x : Drawing × Drawing) (h : HasSkeletons source target s x) where
+module _ (source target : ℕ) (bytes lent : List ℕ) (s : Sheet) (sound : Sound s) (x : Drawing × Drawing)
+    (h : HasSkeletons source target s x) where
   pub same-rows : x .1 .rows ≡ x .0 .rows
   same-rows = back (h .to .rows) ∙ h .from .rows
 
@@ -324,14 +392,16 @@ module _ (source target : ℕ) (bytes lent : List ℕ) (s : Sheet) (sound : Soun
   unfolding meant
   target-is = ap (λ rows. means (term rows) (x .1 .skeleton)) same-rows
 
-  unfoldable pub map-told : MapJudged (x .0 .rows) good-rows (x .0 .skeleton) (x .1 .skeleton) source-on target-on source-occur bytes → Told (SaysMap source target bytes lent) x
+  unfoldable pub map-told : MapJudged (x .0 .rows) good-rows (x .0 .skeleton) (x .1 .skeleton) source-on target-on source-occur
+      bytes → Told (SaysMap source target bytes lent) x
   unfolding images-of found asked over meant
   map-told (broken k b) =
       let t : FirstBroken (meant (x .0)) (meant (x .1)) bytes k = rw target-is b in
       record { answer = breaks k; after = lent; is = no-map t }
   map-told (holds k i) =
       let σ : Subst = found (x .0 .rows) (asked (x .0 .rows) (x .0 .skeleton) (x .1 .skeleton) (λ s. getD bytes s 0)) in
-      let images : List ℕ = images-of (x .0 .rows) good-rows (x .0 .skeleton) (x .1 .skeleton) source-on target-on source-occur σ in
+      let images : List ℕ = images-of (x .0 .rows) good-rows (x .0 .skeleton) (x .1 .skeleton) source-on target-on source-occur
+      σ in
       let t : Kept (meant (x .0)) (meant (x .1)) bytes 6 σ = rw target-is k in
       record { answer = is-map; after = over images lent; is = yes-map t i }
 
@@ -340,11 +410,13 @@ module _ (source target : ℕ) (bytes lent : List ℕ) (s : Sheet) (sound : Soun
   told-map = map-told (judge-map (x .0 .rows) good-rows (x .0 .skeleton) (x .1 .skeleton) source-on target-on source-occur bytes)
 
 module _ (source target : ℕ) (bytes lent : List ℕ) (s : Sheet) (sound : Sound s) where
-  unfoldable pub image-room : (x : Drawing × Drawing) → HasSkeletons source target s x → Dec (ImageRoom source target bytes lent x)
+  unfoldable pub image-room : (x : Drawing × Drawing) → HasSkeletons source target s x
+      → Dec (ImageRoom source target bytes lent x)
   unfolding dec-of ImageRoom
   image-room x h = dec-of (leb (length (x .0 .rows)) (length lent)) (leb→le _ _, le→leb _ _)
 
-  unfoldable pub map-had : Had (HasSkeletons source target) (ImageRoom source target bytes lent) (SaysMap source target bytes lent) lent (Verdict.accepted s)
+  unfoldable pub map-had : Had (HasSkeletons source target) (ImageRoom source target bytes lent)
+      (SaysMap source target bytes lent) lent (Verdict.accepted s)
   unfolding had image-room told-map meets-skeletons
   map-had =
       had (HasSkeletons source target) (ImageRoom source target bytes lent) (SaysMap source target bytes lent) lent s image-room

@@ -42,7 +42,8 @@ same-node-true m n h =
 
 same-node-refl : (n : Node) → T (same-node n n)
 unfolding same-node
-same-node-refl n = pair-up (eqb (n .strand) (n .strand)) (eqb (n .position) (n .position)) (eqb-refl (n .strand)) (eqb-refl (n .position))
+same-node-refl n =
+    pair-up (eqb (n .strand) (n .strand)) (eqb (n .position) (n .position)) (eqb-refl (n .strand)) (eqb-refl (n .position))
 
 unfoldable pub aligned : Event ℕ → Option (Event ℕ) → Bool
 aligned (send t) none = false
@@ -80,10 +81,12 @@ module _ (rows : List Row) (K : Skeleton ℕ) (ok : OnTable rows K) where
         rw (same-node-true a m x) at (edge-leads K l (decided b (ok .low (a, b) l .1) .0 y)),
     λ p.
         let (o, l, q) = before-edge K p in
-        finds-some (λ e. same-node (e .0) m && precedes K n e) (edges K) l (pair-up (same-node m m) _ (same-node-refl m) (decided o (ok .low (m, o) l .1) .1 q)),
+        finds-some (λ e. same-node (e .0) m && precedes K n e) (edges K) l
+        (pair-up (same-node m m) _ (same-node-refl m) (decided o (ok .low (m, o) l .1) .1 q)),
   )
     where
-      decided : (o : Node) → Low o → T (marked (reach (to-rules (edges K) n) (length (K .strands) * 16)) (code o)) ↔ Leads (edges K) o n
+      decided : (o : Node) → Low o
+          → T (marked (reach (to-rules (edges K) n) (length (K .strands) * 16)) (code o)) ↔ Leads (edges K) o n
       decided o l = leads-decided (edges K) (ok .low) n h (length (K .strands) * 16) (λ e m. ok .nodes e m .0) k o l
 
 -- Rules 1 to 3
@@ -149,7 +152,8 @@ module _ (rows : List Row) (A B : Skeleton ℕ) (f : ℕ → ℕ) where
     -- an origin of t goes to an origin of j
     unfoldable pub origin-kept : ℕ → ℕ → Happening ℕ → Bool
     unfolding is-origin some-of same-node events
-    origin-kept t j x = not (is-origin rows A t x) || some-of (λ y. same-node (y .0) (move f (x .0)) && is-origin rows B j y) (events B)
+    origin-kept t j x =
+        not (is-origin rows A t x) || some-of (λ y. same-node (y .0) (move f (x .0)) && is-origin rows B j y) (events B)
 
     unfoldable pub uniq-kept : ℕ → ℕ → Bool
     unfolding alike apply term all-of origin-kept events
@@ -164,7 +168,8 @@ unfoldable pub map-test : List Row → Skeleton ℕ → Skeleton ℕ → (ℕ �
 unfolding test₁ test₂ serves found asked test₄ test₅ test₆
 map-test rows A B f =
     let σ = found rows (asked rows A B f) in
-    test₁ rows A B f && (test₂ rows A B f && (serves rows (asked rows A B f) && (test₄ rows A B f && (test₅ rows A B f σ && test₆ rows A B f σ))))
+    test₁ rows A B f && (test₂ rows A B f && (serves rows (asked rows A B f)
+    && (test₄ rows A B f && (test₅ rows A B f σ && test₆ rows A B f σ))))
 
 module _ (rows : List Row) (good : Good rows) (A B : Skeleton ℕ) (okA : OnTable rows A) (okB : OnTable rows B) (f : ℕ → ℕ) where
   abbrev A′ : Skeleton Term
@@ -178,7 +183,8 @@ module _ (rows : List Row) (good : Good rows) (A B : Skeleton ℕ) (okA : OnTabl
   rule₂-iff = (
     λ t n e a.
         let (e₀, a₀, q) = at-meant (term rows) A a in
-        let (d, z, s) = aligned-means rows e₀ (event-at B (move f n)) (all-each (meets rows A B f) (events A) t (n, e₀) (event-listed A a₀)) in
+        let (d, z, s) = aligned-means rows e₀ (event-at B (move f n))
+        (all-each (meets rows A B f) (events A) t (n, e₀) (event-listed A a₀)) in
         (on-message (term rows) d, at-means (term rows) B (record { is = z }), rw q at s),
     λ r. each-all (meets rows A B f) (events A) λ x m.
         let a = listed-event A x m in
@@ -219,14 +225,17 @@ module _ (rows : List Row) (good : Good rows) (A B : Skeleton ℕ) (okA : OnTabl
         let (d, b) = met x k in
         let a = listed-event A x k in
         let y : apply σ (term rows (message (x .1))) ≡ term rows (message d) =
-        rw (message-means rows (x .1), message-means rows d) at (r (x .0) _ _ (at-means (term rows) A a) (at-means (term rows) B b)) in
+        rw (message-means rows (x .1), message-means rows d)
+        at (r (x .0) _ _ (at-means (term rows) A a) (at-means (term rows) B b)) in
         rw (← e, b .is) (record { from = okA .messages (x .0) (x .1) a; to = okB .messages (move f (x .0)) d b; is = y })
 
   pub rule₁-iff : T (test₁ rows A B f) ↔ Rule1 A′ B′ f
   unfolding test₁ Rule1 means
   rule₁-iff = (
-    λ t s h. rw length-map (ltb→lt _ _ (every-true (length (A .strands)) (λ s. ltb (f s) (length (B .strands))) t s (rw length-map at h))),
-    λ r. true-every (length (A .strands)) (λ s. ltb (f s) (length (B .strands))) λ s h. lt→ltb _ _ (rw length-map at (r s (rw length-map h))),
+    λ t s h. rw length-map (ltb→lt _ _ (every-true (length (A .strands)) (λ s. ltb (f s) (length (B .strands))) t s
+        (rw length-map at h))),
+    λ r. true-every (length (A .strands)) (λ s. ltb (f s) (length (B .strands))) λ s h. lt→ltb _ _
+        (rw length-map at (r s (rw length-map h))),
   )
 
   module _ (strands : Rule1 A′ B′ f) where
@@ -251,15 +260,18 @@ module _ (rows : List Row) (good : Good rows) (A B : Skeleton ℕ) (okA : OnTabl
       λ t m n b.
           let (o, e, l) = before-edge A (before-meant (term rows) A b) in
           before-means (term rows) B (moved-chain (λ d k. moved-iff d k .0 (all-each (moved rows A B f) (edges A) t d k)) e l),
-      λ r. each-all (moved rows A B f) (edges A) λ e k. moved-iff e k .1 (before-meant (term rows) B (r _ _ (before-means (term rows) A (edge-leads A k stop)))),
+      λ r. each-all (moved rows A B f) (edges A) λ e k. moved-iff e k .1
+          (before-meant (term rows) B (r _ _ (before-means (term rows) A (edge-leads A k stop)))),
     )
 
   module _ (σ : Subst) where
     image-iff : (l : List ℕ) (t : ℕ) → T (image-in rows A B f σ l t) ↔ List·Memᴰ (apply σ (term rows t)) (map (term rows) l)
     unfolding image-in
     image-iff l t = (
-      λ h. let (j, m, q) = some-found (λ j. alike (apply σ (term rows t)) (term rows j)) l h in rw (alike-iff (apply σ (term rows t)) (term rows j) .0 q) (Memᴰ·map (term rows) m),
-      λ m. let (j, k, q) = Memᴰ·of-map (term rows) l m in finds-some (λ j. alike (apply σ (term rows t)) (term rows j)) l k (alike-iff _ _ .1 (back q)),
+      λ h. let (j, m, q) = some-found (λ j. alike (apply σ (term rows t)) (term rows j)) l h in
+          rw (alike-iff (apply σ (term rows t)) (term rows j) .0 q) (Memᴰ·map (term rows) m),
+      λ m. let (j, k, q) = Memᴰ·of-map (term rows) l m in finds-some (λ j. alike (apply σ (term rows t)) (term rows j)) l k
+          (alike-iff _ _ .1 (back q)),
     )
 
     pub rule₅-iff : T (test₅ rows A B f σ) ↔ Rule5 A′ B′ f σ
@@ -268,7 +280,8 @@ module _ (rows : List Row) (good : Good rows) (A B : Skeleton ℕ) (okA : OnTabl
       λ h t m.
           let (i, k, q) = Memᴰ·of-map (term rows) (A .non) m in
           rw q at (image-iff (B .non) i .0 (all-each (image-in rows A B f σ (B .non)) (A .non) h i k)),
-      λ r. each-all (image-in rows A B f σ (B .non)) (A .non) λ i k. image-iff (B .non) i .1 (r (term rows i) (Memᴰ·map (term rows) k)),
+      λ r. each-all (image-in rows A B f σ (B .non)) (A .non) λ i k. image-iff (B .non) i .1
+          (r (term rows i) (Memᴰ·map (term rows) k)),
     )
 
     -- rule 6, for a pair of unique terms
@@ -281,7 +294,8 @@ module _ (rows : List Row) (good : Good rows) (A B : Skeleton ℕ) (okA : OnTabl
     origins-kept t j h k = (
       λ q n o.
           let (e, a, i) = origin-found rows good A okA t h n o in
-          let g = implied (is-origin rows A t (n, e)) _ (all-each (origin-kept rows A B f σ t j) (events A) q (n, e) (event-listed A a)) i in
+          let g = implied (is-origin rows A t (n, e)) _ (all-each (origin-kept rows A B f σ t j) (events A) q (n, e)
+          (event-listed A a)) i in
           let (y, m, r) = some-found (λ y. same-node (y .0) (move f n) && is-origin rows B j y) (events B) g in
           let (s, v) = both (same-node (y .0) (move f n)) _ r in
           rw (same-node-true (y .0) (move f n) s) at (origin-of rows good B okB j k y m v),
@@ -296,7 +310,8 @@ module _ (rows : List Row) (good : Good rows) (A B : Skeleton ℕ) (okA : OnTabl
     rule₆-iff = (
       λ h t m.
           let (i, k, q) = Memᴰ·of-map (term rows) (A .uniq) m in
-          let (j, l, r) = some-found (uniq-kept rows A B f σ i) (B .uniq) (all-each (λ t. some-of (uniq-kept rows A B f σ t) (B .uniq)) (A .uniq) h i k) in
+          let (j, l, r) = some-found (uniq-kept rows A B f σ i) (B .uniq)
+          (all-each (λ t. some-of (uniq-kept rows A B f σ t) (B .uniq)) (A .uniq) h i k) in
           let (s, v) = both (alike (apply σ (term rows i)) (term rows j)) _ r in
           let z : apply σ t ≡ term rows j = ap (apply σ) (back q) ∙ alike-iff (apply σ (term rows i)) (term rows j) .0 s in
           let g : KeepsOrigins t (term rows j) = rw q at (origins-kept i j (okA .uniqs i k) (okB .uniqs j l) .0 v) in
@@ -389,14 +404,16 @@ each-first-length : (n b : ℕ) (ls : List (List ℕ)) → Each (λ l. length l 
 unfolding each-first
 each-first-length n zero ls f = each-nil _
 each-first-length n (suc b) ls f =
-    each-append _ (each-first b ls) (each-first-length n b ls f) (λ x m. let (l, k, e) = Memᴰ·of-map (λ l. b ∷ l) ls m in rw (← e) (ap suc (f l k)))
+    each-append _ (each-first b ls) (each-first-length n b ls f)
+    (λ x m. let (l, k, e) = Memᴰ·of-map (λ l. b ∷ l) ls m in rw (← e) (ap suc (f l k)))
 
 candidates-length : (n b : ℕ) → Each (λ l. length l ≡ n) (candidates n b)
 unfolding candidates
 candidates-length zero b = each-cons _ refl (each-nil _)
 candidates-length (suc n) b = each-first-length n b (candidates n b) (candidates-length n b)
 
-small-of : (g : ℕ → Term) (A B : Skeleton ℕ) (f : ℕ → ℕ) → Rule1 (means g A) (means g B) f → (s : ℕ) → s < length (A .strands) → f s < length (B .strands)
+small-of : (g : ℕ → Term) (A B : Skeleton ℕ) (f : ℕ → ℕ) → Rule1 (means g A) (means g B) f → (s : ℕ) → s < length (A .strands)
+    → f s < length (B .strands)
 unfolding Rule1 means
 small-of g A B f r s h = rw length-map at (r s (rw length-map h))
 
@@ -415,7 +432,8 @@ module _ (rows : List Row) (good : Good rows) (A B : Skeleton ℕ) (okA : OnTabl
         let k = kept test all l m in
         let (σ, i) = map-iff rows good A B okA okB (λ s. getD l s 0) occur .0 (k .1) in
         record { full = candidates-length (length (A .strands)) (length (B .strands)) l (k .0); σ = σ; is-map = i },
-    λ i. keeps test all (in-candidates _ _ l (i .full) (small i)) (map-iff rows good A B okA okB (λ s. getD l s 0) occur .1 (i .σ, i .is-map)),
+    λ i. keeps test all (in-candidates _ _ l (i .full) (small i))
+        (map-iff rows good A B okA okB (λ s. getD l s 0) occur .1 (i .σ, i .is-map)),
   )
     where
       test : List ℕ → Bool

@@ -128,7 +128,8 @@ module _ (rows : List Row) (good : Good rows) (σ : Subst) where
 
       go : (t u : ℕ) → img (set is (w .0) (fill rows (img is (w .0)) (w .1))) t ≡ some u → Dec (t ≡ w .0) → Granted (t, u)
       go t u e (yes q) =
-          rw q (filled (img is (w .0)) u refl (back (getD-set-same is (w .0) (fill rows (img is (w .0)) (w .1)) none (rw (r .0) (g .from))) ∙ rw q at e))
+          rw q (filled (img is (w .0)) u refl (back (getD-set-same is (w .0) (fill rows (img is (w .0)) (w .1)) none
+          (rw (r .0) (g .from))) ∙ rw q at e))
       go t u e (no q) = r .1 t u (back (getD-set-other is (w .0) t (fill rows (img is (w .0)) (w .1)) none q) ∙ e)
 
   put-right : (ws : List Wish) (is : Images) → Right is → Each Granted ws → Right (put rows ws is)
@@ -157,23 +158,28 @@ module _ (rows : List Row) (good : Good rows) (σ : Subst) where
       rw p (each-cons Granted (granted a c t b h i (omega arith)) (each-nil Granted))
   row-parts (Inv a) t u h k b (c, i, l, p) =
       let v = inverse-law rows good u k in
-      let q : inverse-at rows u ≡ c = term-injective rows good (inverse-at rows u) c (v .inside) l (v .means ∙ (ap inv p ∙ inv-inv _)) in
+      let q : inverse-at rows u ≡ c = term-injective rows good (inverse-at rows u) c (v .inside) l
+      (v .means ∙ (ap inv p ∙ inv-inv _)) in
       rw q (each-cons Granted (granted a c t b h i l) (each-nil Granted))
   row-parts (Ltk a b) t u h k e (c, d, i, j, p) =
       let m : (c < u) × (d < u) = rw p at (good .earlier u k) in
-      rw p (each-cons Granted (granted a c t (e .0) h i (omega arith)) (each-cons Granted (granted b d t (e .1) h j (omega arith)) (each-nil Granted)))
+      rw p (each-cons Granted (granted a c t (e .0) h i (omega arith))
+      (each-cons Granted (granted b d t (e .1) h j (omega arith)) (each-nil Granted)))
   row-parts (Pair a b) t u h k e (c, d, i, j, p) =
       let m : (c < u) × (d < u) = rw p at (good .earlier u k) in
-      rw p (each-cons Granted (granted a c t (e .0) h i (omega arith)) (each-cons Granted (granted b d t (e .1) h j (omega arith)) (each-nil Granted)))
+      rw p (each-cons Granted (granted a c t (e .0) h i (omega arith))
+      (each-cons Granted (granted b d t (e .1) h j (omega arith)) (each-nil Granted)))
   row-parts (Enc a b) t u h k e (c, d, i, j, p) =
       let m : (c < u) × (d < u) = rw p at (good .earlier u k) in
-      rw p (each-cons Granted (granted a c t (e .0) h i (omega arith)) (each-cons Granted (granted b d t (e .1) h j (omega arith)) (each-nil Granted)))
+      rw p (each-cons Granted (granted a c t (e .0) h i (omega arith))
+      (each-cons Granted (granted b d t (e .1) h j (omega arith)) (each-nil Granted)))
   row-parts (Hash a) t u h k b (c, i, p) =
       let m : c < u = rw p at (good .earlier u k) in
       rw p (each-cons Granted (granted a c t b h i (omega arith)) (each-nil Granted))
 
   parts-granted : (t u : ℕ) → Granted (t, u) → Each Granted (parts rows (row rows t) u)
-  parts-granted t u g = row-parts (row rows t) t u (g .from) (g .to) (good .earlier t (g .from)) (images-fit rows good σ t u (g .from) (g .to) (g .is))
+  parts-granted t u g = row-parts (row rows t) t u (g .from) (g .to) (good .earlier t (g .from))
+      (images-fit rows good σ t u (g .from) (g .to) (g .is))
 
   visit-right : (t : ℕ) (o : Option ℕ) (is : Images) → img is t ≡ o → Right is → Right (visit rows t o is)
   unfolding visit Right
@@ -219,27 +225,32 @@ module _ (rows : List Row) where
   Within : Images → Wish → Type 0
   Within is w = w .0 < length is
 
-  put-keeps : (ws : List Wish) (is : Images) → Each (Within is) ws → (t v : ℕ) → img is t ≡ some v → img (put rows ws is) t ≡ some v
+  put-keeps : (ws : List Wish) (is : Images) → Each (Within is) ws → (t v : ℕ) → img is t ≡ some v
+      → img (put rows ws is) t ≡ some v
   unfolding put Within
   put-keeps [] is h t v e = e
   put-keeps (w ∷ ws) is h t v e =
-      put-keeps ws _ (λ x m. rw length-set (h x (List·Memᴰ·tail m))) t v (next-keeps is (w .0) (w .1) (h w (List·Memᴰ·head refl)) t v e)
+      put-keeps ws _ (λ x m. rw length-set (h x (List·Memᴰ·tail m))) t v
+      (next-keeps is (w .0) (w .1) (h w (List·Memᴰ·head refl)) t v e)
 
   put-has : (ws : List Wish) (is : Images) → Each (Within is) ws → Each (λ w. Has (put rows ws is) (w .0)) ws
   unfolding put Within Has
   put-has [] is h = each-nil _
   put-has (w ∷ ws) is h =
-      let g : Each (Within (next is (w .0) (w .1) (h w (List·Memᴰ·head refl)))) ws = λ x m. rw length-set (h x (List·Memᴰ·tail m)) in
+      let g : Each (Within (next is (w .0) (w .1) (h w (List·Memᴰ·head refl)))) ws = λ x m. rw length-set
+      (h x (List·Memᴰ·tail m)) in
       let (v, e) = next-has is (w .0) (w .1) (h w (List·Memᴰ·head refl)) in
       each-cons _ (v, put-keeps ws _ g (w .0) v e) (put-has ws _ g)
 
   -- wishes below m leave the images from m on
-  put-above : (ws : List Wish) (is : Images) (m : ℕ) → Each (λ w. w .0 < m) ws → (t : ℕ) → m ≤ t → img (put rows ws is) t ≡ img is t
+  put-above : (ws : List Wish) (is : Images) (m : ℕ) → Each (λ w. w .0 < m) ws → (t : ℕ) → m ≤ t
+      → img (put rows ws is) t ≡ img is t
   unfolding put
   put-above [] is m h t l = refl
   put-above (w ∷ ws) is m h t l =
       put-above ws _ m (λ x k. h x (List·Memᴰ·tail k)) t l
-      ∙ getD-set-other is (w .0) t (fill rows (img is (w .0)) (w .1)) none (λ q. let k : w .0 < m = h w (List·Memᴰ·head refl) in omega arith)
+      ∙ getD-set-other is (w .0) t (fill rows (img is (w .0)) (w .1)) none
+      (λ q. let k : w .0 < m = h w (List·Memᴰ·head refl) in omega arith)
 
   parts-below : (r : Row) (t u : ℕ) → Earlier t r → Each (λ w. w .0 < t) (parts rows r u)
   unfolding parts Earlier
@@ -317,7 +328,8 @@ module _ (rows : List Row) where
     unfolding visit Within
     visit-keeps t none is h l a v e = e
     visit-keeps t (some u) is h l a v e =
-        put-keeps (parts rows (row rows t) u) is (λ x m. let b : x .0 < t = parts-below (row rows t) t u (good .earlier t h) x m in omega arith) a v e
+        put-keeps (parts rows (row rows t) u) is (λ x m. let b : x .0 < t = parts-below (row rows t) t u (good .earlier t h) x
+        m in omega arith) a v e
 
     length-visit : (t : ℕ) (o : Option ℕ) (is : Images) → length (visit rows t o is) ≡ length is
     unfolding visit
@@ -329,7 +341,8 @@ module _ (rows : List Row) where
     unfolding descend
     descend-keeps zero is h l a v e = e
     descend-keeps (suc t) is h l a v e =
-        descend-keeps t (visit rows t (img is t) is) (omega arith) (length-visit t (img is t) is ∙ l) a v (visit-keeps t (img is t) is (omega arith) l a v e)
+        descend-keeps t (visit rows t (img is t) is) (omega arith) (length-visit t (img is t) is ∙ l) a v
+        (visit-keeps t (img is t) is (omega arith) l a v e)
 
     asked-has : (asked : List Wish) → Each (λ w. w .0 < length rows) asked → Each (λ w. Has (images rows asked) (w .0)) asked
     unfolding images Has Within
@@ -343,7 +356,8 @@ module _ (rows : List Row) where
     unfolding images Done
     images-done asked =
         let blank = replicate (length rows) none in
-        descend-done (length rows) (put rows asked blank) (omega arith) (length-put asked blank ∙ length-replicate (length rows) none) (λ t u k h e. absurd (omega arith))
+        descend-done (length rows) (put rows asked blank) (omega arith)
+        (length-put asked blank ∙ length-replicate (length rows) none) (λ t u k h e. absurd (omega arith))
 
 -- THE IMAGES ARE COHERENT WHERE A SUBSTITUTION SERVES
 
@@ -372,9 +386,12 @@ module _ (rows : List Row) (good : Good rows) (σ : Subst) (is : Images) where
   fits-there (Akey n) t u h k b r p f = f
   fits-there (Pubk a) t u h k b r p (c, i, q) = (c, there a c i r (p _ (List·Memᴰ·head refl)), q)
   fits-there (Inv a) t u h k b r p (c, i, l, q) = (c, there a c i r (p _ (List·Memᴰ·head refl)), l, q)
-  fits-there (Ltk a b) t u h k e r p (c, d, i, j, q) = (c, d, there a c i r (p _ (List·Memᴰ·head refl)), there b d j r (p _ (List·Memᴰ·tail (List·Memᴰ·head refl))), q)
-  fits-there (Pair a b) t u h k e r p (c, d, i, j, q) = (c, d, there a c i r (p _ (List·Memᴰ·head refl)), there b d j r (p _ (List·Memᴰ·tail (List·Memᴰ·head refl))), q)
-  fits-there (Enc a b) t u h k e r p (c, d, i, j, q) = (c, d, there a c i r (p _ (List·Memᴰ·head refl)), there b d j r (p _ (List·Memᴰ·tail (List·Memᴰ·head refl))), q)
+  fits-there (Ltk a b) t u h k e r p (c, d, i, j, q) =
+      (c, d, there a c i r (p _ (List·Memᴰ·head refl)), there b d j r (p _ (List·Memᴰ·tail (List·Memᴰ·head refl))), q)
+  fits-there (Pair a b) t u h k e r p (c, d, i, j, q) =
+      (c, d, there a c i r (p _ (List·Memᴰ·head refl)), there b d j r (p _ (List·Memᴰ·tail (List·Memᴰ·head refl))), q)
+  fits-there (Enc a b) t u h k e r p (c, d, i, j, q) =
+      (c, d, there a c i r (p _ (List·Memᴰ·head refl)), there b d j r (p _ (List·Memᴰ·tail (List·Memᴰ·head refl))), q)
   fits-there (Hash a) t u h k b r p (c, i, q) = (c, there a c i r (p _ (List·Memᴰ·head refl)), q)
 
 all-none : (n t : ℕ) → img (replicate n none) t ≡ none
@@ -382,34 +399,35 @@ all-none zero t = refl
 all-none (suc n) zero = refl
 all-none (suc n) (suc t) = all-none n t
 
-module _ (rows : List Row) (good : Good rows) (σ : Subst) (asked : List Wish) (granted-all : Each (Granted rows good σ) asked) where
-  none-right : Right rows good σ (replicate (length rows) none)
-  unfolding Right
-  none-right = (length-replicate (length rows) none, λ t u e. absurd (not-there (back (all-none (length rows) t) ∙ e)))
+module _ (rows : List Row) (good : Good rows) (σ : Subst) (asked : List Wish) (granted-all : Each (Granted rows good σ) asked)
+  where
+    none-right : Right rows good σ (replicate (length rows) none)
+    unfolding Right
+    none-right = (length-replicate (length rows) none, λ t u e. absurd (not-there (back (all-none (length rows) t) ∙ e)))
 
-  images-right : Right rows good σ (images rows asked)
-  unfolding images
-  images-right = descend-right rows good σ (length rows) _ (put-right rows good σ asked _ none-right granted-all)
+    images-right : Right rows good σ (images rows asked)
+    unfolding images
+    images-right = descend-right rows good σ (length rows) _ (put-right rows good σ asked _ none-right granted-all)
 
-  pub images-coherent : Coherent rows (img (images rows asked))
-  unfolding Right Done
-  images-coherent =
-      record {
-        inside = λ t u h e. images-right .1 t u e .to;
-        fits = λ t u h e.
-            let g = images-right .1 t u e in
-            fits-there rows good σ (images rows asked) (row rows t) t u h (g .to) (good .earlier t h) images-right
-            (images-done rows good asked t u (omega arith) h e) (images-fit rows good σ t u h (g .to) (g .is));
-      }
+    pub images-coherent : Coherent rows (img (images rows asked))
+    unfolding Right Done
+    images-coherent =
+        record {
+          inside = λ t u h e. images-right .1 t u e .to;
+          fits = λ t u h e.
+              let g = images-right .1 t u e in
+              fits-there rows good σ (images rows asked) (row rows t) t u h (g .to) (good .earlier t h) images-right
+              (images-done rows good asked t u (omega arith) h e) (images-fit rows good σ t u h (g .to) (g .is));
+        }
 
-  asked-kept : Each (λ w. img (images rows asked) (w .0) ≡ some (w .1)) asked
-  unfolding Has Right
-  asked-kept w m =
-      let (v, e) = asked-has rows good asked (λ x k. granted-all x k .from) w m in
-      let g = granted-all w m in
-      let f = images-right .1 (w .0) v e in
-      let q : v ≡ w .1 = term-injective rows good v (w .1) (f .to) (g .to) (back (f .is) ∙ g .is) in
-      rw (← q) e
+    asked-kept : Each (λ w. img (images rows asked) (w .0) ≡ some (w .1)) asked
+    unfolding Has Right
+    asked-kept w m =
+        let (v, e) = asked-has rows good asked (λ x k. granted-all x k .from) w m in
+        let g = granted-all w m in
+        let f = images-right .1 (w .0) v e in
+        let q : v ≡ w .1 = term-injective rows good v (w .1) (f .to) (g .to) (back (f .is) ∙ g .is) in
+        rw (← q) e
 
 -- MATCHING IS DECIDED BY THE IMAGES
 
@@ -417,7 +435,8 @@ pub record Matched (rows : List Row) (asked : List Wish) : Type 0 where
   pub coherent : Coherent rows (img (images rows asked))
   pub kept : Each (λ w. img (images rows asked) (w .0) ≡ some (w .1)) asked
 
-module _ (rows : List Row) (good : Good rows) (asked : List Wish) (inside : Each (λ w. (w .0 < length rows) × (w .1 < length rows)) asked) where
+module _ (rows : List Row) (good : Good rows) (asked : List Wish)
+    (inside : Each (λ w. (w .0 < length rows) × (w .1 < length rows)) asked) where
   pub matched-iff : ((σ : Subst) × Each (Granted rows good σ) asked) ↔ Matched rows asked
   matched-iff = (
     λ (σ, g). record { coherent = images-coherent rows good σ asked g; kept = asked-kept rows good σ asked g },
@@ -425,7 +444,12 @@ module _ (rows : List Row) (good : Good rows) (asked : List Wish) (inside : Each
       reading rows (img (images rows asked)),
       λ w k.
           let (f, t) = inside w k in
-          record { from = f; to = t; is = images-read rows (img (images rows asked)) good (m .coherent) (w .0) (w .1) f (m .kept w k) },
+          record {
+            from = f;
+            to = t;
+            is = images-read rows (img (images rows asked)) good (m .coherent) (w .0) (w .1) f
+                (m .kept w k);
+          },
     ),
   )
 
@@ -452,10 +476,12 @@ unfolding alike apply term
 grants rows σ w = alike (apply σ (term rows (w .0))) (term rows (w .1))
 
 unfoldable pub serves : List Row → List Wish → Bool
-unfolding found grants all-of number terms-after meaning name-of inv flip atom-same on-atom on-sym on-asym turned image text-of sym-of asym-of
+unfolding found grants all-of number terms-after meaning name-of inv flip atom-same on-atom on-sym on-asym turned image text-of
+    sym-of asym-of
 serves rows asked = all-of (grants rows (found rows asked)) asked
 
-module _ (rows : List Row) (good : Good rows) (asked : List Wish) (inside : Each (λ w. (w .0 < length rows) × (w .1 < length rows)) asked) where
+module _ (rows : List Row) (good : Good rows) (asked : List Wish)
+    (inside : Each (λ w. (w .0 < length rows) × (w .1 < length rows)) asked) where
   pub serves-granted : T (serves rows asked) → Each (Granted rows good (found rows asked)) asked
   unfolding serves grants
   serves-granted h w k =
@@ -467,4 +493,5 @@ module _ (rows : List Row) (good : Good rows) (asked : List Wish) (inside : Each
   granted-serves σ g =
       let m = matched-iff rows good asked inside .0 (σ, g) in
       each-all (grants rows (found rows asked)) asked
-      (λ w k. alike-iff _ _ .1 (images-read rows (img (images rows asked)) good (m .coherent) (w .0) (w .1) (inside w k .0) (m .kept w k)))
+      (λ w k. alike-iff _ _ .1 (images-read rows (img (images rows asked)) good (m .coherent) (w .0) (w .1) (inside w k .0)
+      (m .kept w k)))

@@ -62,7 +62,8 @@ pub record Same {A : Type 0} (a b : A) (l m : List ℕ) : Type 0 where
   pub answer : a ≡ b
   pub bytes : l ≡ m
 
-module _ {X A : Type 0} (Subject : Sheet → X → Type 0) (Room : X → Type 0) (Says : X → A → List ℕ → Type 0) (lent : List ℕ) (s : Sheet)
+module _ {X A : Type 0} (Subject : Sheet → X → Type 0) (Room : X → Type 0) (Says : X → A → List ℕ → Type 0) (lent : List ℕ)
+    (s : Sheet)
     (one-subject : (x y : X) → Subject s x → Subject s y → x ≡ y)
     (one-said : (x : X) → Subject s x → (a b : A) (l m : List ℕ) → Says x a l → Says x b m → Same a b l m) where
   pub asked-one : {a b : Answer A} {l m : List ℕ} → Asked Subject Room Says lent (Verdict.accepted s) a l
@@ -92,7 +93,8 @@ module _ (k : ℕ) (s : Sheet) where
 -- The counts
 
 module _ (s : Sheet) where
-  pub sheet-one : {a b : Answer Counts} {l m : List ℕ} → AskSheet (Verdict.accepted s) a l → AskSheet (Verdict.accepted s) b m → Same a b l m
+  pub sheet-one : {a b : Answer Counts} {l m : List ℕ} → AskSheet (Verdict.accepted s) a l → AskSheet (Verdict.accepted s) b m
+      → Same a b l m
   unfolding AskSheet
   sheet-one h k =
       asked-one TheSheet Always SaysCounts [] s (λ x y p q. back (p .same) ∙ q .same)
@@ -128,7 +130,7 @@ module _ (k : ℕ) (n : Node) (t : ℕ) (s : Sheet) where
       (λ x y p q. one-drawing k s x y (p .reception .drawing) (q .reception .drawing))
       (λ x _ a b l m p q. record { answer = tells-one a b (p .tells) (q .tells); bytes = p .kept ∙ back (q .kept) }) h g
 
--- AskReach
+-- Reach
 
 module _ (k : ℕ) (n : Node) where
   reach-one : (D : Drawing) (a b : ℕ) → ReachIs k n D a → ReachIs k n D b → a ≡ b
@@ -139,7 +141,8 @@ module _ (k : ℕ) (n : Node) where
       back (p .size) ∙ (ap length e ∙ q .size)
 
   module _ (s : Sheet) where
-    pub reach-answer-one : {a b : Answer ℕ} {l m : List ℕ} → AskReach k n (Verdict.accepted s) a l → AskReach k n (Verdict.accepted s) b m → Same a b l m
+    pub reach-answer-one : {a b : Answer ℕ} {l m : List ℕ} → AskReach k n (Verdict.accepted s) a l
+        → AskReach k n (Verdict.accepted s) b m → Same a b l m
     unfolding AskReach
     reach-answer-one h g =
         asked-one (HasReception k n) Always (SaysReach k n) [] s (λ x y p q. one-drawing k s x y (p .drawing) (q .drawing))
@@ -148,9 +151,11 @@ module _ (k : ℕ) (n : Node) where
 -- Realized
 
 sooner-or-not : (m n : Node) → Sooner m n ⊎ (Sooner n m ⊎ (m ≡ n))
-sooner-or-not m n = go (decLt (m .strand) (n .strand)) (decLt (n .strand) (m .strand)) (decLt (m .position) (n .position)) (decLt (n .position) (m .position))
+sooner-or-not m n = go (decLt (m .strand) (n .strand)) (decLt (n .strand) (m .strand)) (decLt (m .position) (n .position))
+    (decLt (n .position) (m .position))
   where
-    go : Dec (m .strand < n .strand) → Dec (n .strand < m .strand) → Dec (m .position < n .position) → Dec (n .position < m .position) → Sooner m n ⊎ (Sooner n m ⊎ (m ≡ n))
+    go : Dec (m .strand < n .strand) → Dec (n .strand < m .strand) → Dec (m .position < n .position)
+        → Dec (n .position < m .position) → Sooner m n ⊎ (Sooner n m ⊎ (m ≡ n))
     go (yes a) _ _ _ = inl (strand a)
     go (no a) (yes b) _ _ = inr (inl (strand b))
     go (no a) (no b) (yes c) _ = inl (position (omega arith) c)
@@ -175,10 +180,12 @@ module _ (D : Drawing) where
   openness-one _ _ _ _ (yes-realized p) (yes-realized q) = record { answer = refl; bytes = refl }
   openness-one _ _ _ _ (yes-realized p) (first-open {n} q) = absurd (open-unrealized (meant D) n q p)
   openness-one _ _ _ _ (first-open {n} p) (yes-realized q) = absurd (open-unrealized (meant D) n p q)
-  openness-one _ _ _ _ (first-open {n = m} p) (first-open {n} q) = record { answer = ap open-at (first-open-one (meant D) m n p q); bytes = refl }
+  openness-one _ _ _ _ (first-open {n = m} p) (first-open {n} q) =
+      record { answer = ap open-at (first-open-one (meant D) m n p q); bytes = refl }
 
 module _ (k : ℕ) (s : Sheet) where
-  pub realized-one : {a b : Answer Openness} {l m : List ℕ} → AskRealized k (Verdict.accepted s) a l → AskRealized k (Verdict.accepted s) b m → Same a b l m
+  pub realized-one : {a b : Answer Openness} {l m : List ℕ} → AskRealized k (Verdict.accepted s) a l
+      → AskRealized k (Verdict.accepted s) b m → Same a b l m
   unfolding AskRealized
   realized-one h g = asked-one (HasSkeleton k) Always SaysRealized [] s (one-drawing k s) (λ x _. openness-one x) h g
 
@@ -207,20 +214,23 @@ module _ (A B : Skeleton Term) (bytes : List ℕ) where
       go (no h) (yes g) = absurd (q .breaks (p .hold k g))
       go (no h) (no g) = omega arith
 
-module _ (rows : List Row) (good : Good rows) (A B : Skeleton Term) (bytes : List ℕ) (σ τ : Subst) (p : Kept A B bytes 6 σ) (q : Kept A B bytes 6 τ) where
+module _ (rows : List Row) (good : Good rows) (A B : Skeleton Term) (bytes : List ℕ) (σ τ : Subst) (p : Kept A B bytes 6 σ)
+    (q : Kept A B bytes 6 τ) where
   images-one : (l m : List ℕ) → Images rows A σ l → Images rows A τ m → l ≡ m
   images-one l m h k =
       ext-getD 255 l m (h .full ∙ back (k .full)) λ i b. go i (rw (h .full) at b) (ℕ-discrete (getD l i 255) (getD m i 255))
     where
       agreed : (t : Term) → SourceVariable A t → apply σ t ≡ apply τ t
       agreed t v =
-          images-agree A B (to A B bytes) σ τ (p .directions (omega arith)) (p .messages (omega arith)) (q .messages (omega arith)) (v .occurs .node) (v .occurs .event) (v .occurs .at) (v .occurs .occurs)
+          images-agree A B (to A B bytes) σ τ (p .directions (omega arith)) (p .messages (omega arith))
+          (q .messages (omega arith)) (v .occurs .node) (v .occurs .event) (v .occurs .at) (v .occurs .occurs)
 
       go : (i : ℕ) → i < length rows → Dec (getD l i 255 ≡ getD m i 255) → getD l i 255 ≡ getD m i 255
       go i b (yes e) = e
       go i b (no n) =
           let x : ¬ SourceVariable A (term rows i) = λ v.
-          n (term-injective rows good _ _ (h .inside i b v) (k .inside i b v) (h .image i b v ∙ (agreed _ v ∙ back (k .image i b v)))) in
+          n (term-injective rows good _ _ (h .inside i b v) (k .inside i b v)
+          (h .image i b v ∙ (agreed _ v ∙ back (k .image i b v)))) in
           h .elsewhere i b x ∙ back (k .elsewhere i b x)
 
 pub maps-one : {A B : Skeleton Term} {l m : List (List ℕ)} → TheMaps A B l → TheMaps A B m → l ≡ m
@@ -236,12 +246,17 @@ module _ (source target : ℕ) (s : Sheet) where
       λ i. (e i, f i)
 
   module _ (good : Good (s .rows)) (bytes lent : List ℕ) where
-    map-said-one : (x : Drawing × Drawing) → HasSkeletons source target s x → (a b : Mapping) (l m : List ℕ) → SaysMap source target bytes lent x a l
+    map-said-one : (x : Drawing × Drawing) → HasSkeletons source target s x → (a b : Mapping) (l m : List ℕ)
+        → SaysMap source target bytes lent x a l
         → SaysMap source target bytes lent x b m
         → Same a b l m
     map-said-one x g _ _ _ _ (yes-map {σ} {images = l} p h) (yes-map {σ = τ} {images = m} q k) =
         let r : Good (x .0 .rows) = rw (g .from .rows) at good in
-        record { answer = refl; bytes = ap (λ w. over w lent) (images-one (x .0 .rows) r (meant (x .0)) (meant (x .1)) bytes σ τ p q l m h k) }
+        record {
+          answer = refl;
+          bytes = ap (λ w. over w lent)
+              (images-one (x .0 .rows) r (meant (x .0)) (meant (x .1)) bytes σ τ p q l m h k);
+        }
     map-said-one x g _ _ _ _ (yes-map {σ} p h) (no-map {rule} q) =
         absurd (q .breaks (upto-less (meant (x .0)) (meant (x .1)) bytes rule 6 (q .rule) (record { σ = σ; kept = p })))
     map-said-one x g _ _ _ _ (no-map {rule} p) (yes-map {σ} q k) =
@@ -254,18 +269,25 @@ module _ (source target : ℕ) (s : Sheet) where
         → Same a b l m
     unfolding AskMap
     map-one h g =
-        asked-one (HasSkeletons source target) (ImageRoom source target bytes lent) (SaysMap source target bytes lent) lent s one-pair map-said-one h g
+        asked-one (HasSkeletons source target) (ImageRoom source target bytes lent) (SaysMap source target bytes lent) lent s
+        one-pair map-said-one h g
 
   module _ (lent : List ℕ) where
-    list-said-one : (x : Drawing × Drawing) → HasSkeletons source target s x → (a b : ℕ) (l m : List ℕ) → SaysList source target lent x a l
+    list-said-one : (x : Drawing × Drawing) → HasSkeletons source target s x → (a b : ℕ) (l m : List ℕ)
+        → SaysList source target lent x a l
         → SaysList source target lent x b m
         → Same a b l m
     list-said-one x _ a b l m p q =
         let e : p .maps ≡ q .maps = maps-one (p .all) (q .all) in
-        record { answer = back (p .counted) ∙ (ap length e ∙ q .counted); bytes = back (p .written) ∙ (ap (λ w. over (end-to-end w) lent) e ∙ q .written) }
+        record {
+          answer = back (p .counted) ∙ (ap length e ∙ q .counted);
+          bytes = back (p .written)
+              ∙ (ap (λ w. over (end-to-end w) lent) e ∙ q .written);
+        }
 
     pub list-one : {a b : Answer ℕ} {l m : List ℕ} → AskList source target lent (Verdict.accepted s) a l
         → AskList source target lent (Verdict.accepted s) b m
         → Same a b l m
     unfolding AskList
-    list-one h g = asked-one (HasSkeletons source target) (ListRoom source target lent) (SaysList source target lent) lent s one-pair list-said-one h g
+    list-one h g = asked-one (HasSkeletons source target) (ListRoom source target lent) (SaysList source target lent) lent s
+        one-pair list-said-one h g

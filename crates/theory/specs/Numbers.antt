@@ -102,7 +102,8 @@ module _ (number : Term → ℕ) (rows : ℕ → Row) (f : ℕ → Term) (m : �
       let (k, e) = key-shown f s (law a b) in
       ap (λ t. row-of number (inv t)) e ∙ ap Inv (ap number (back e) ∙ known a b)
   row-of-meaning (Ltk a b) c s =
-      ap₂ Ltk (ap number (name-shown f (s .0) (law a (c .0))) ∙ known a (c .0)) (ap number (name-shown f (s .1) (law b (c .1))) ∙ known b (c .1))
+      ap₂ Ltk (ap number (name-shown f (s .0) (law a (c .0))) ∙ known a (c .0))
+      (ap number (name-shown f (s .1) (law b (c .1))) ∙ known b (c .1))
   row-of-meaning (Pair a b) c s = ap₂ Pair (known a (c .0)) (known b (c .1))
   row-of-meaning (Enc a b) c s = ap₂ Enc (known a (c .0)) (known b (c .1))
   row-of-meaning (Hash a) b s = ap Hash (known a b)
@@ -114,7 +115,8 @@ module _ (rows : List Row) (good : Good rows) where
   row-of-term : (i : ℕ) → i < length rows → ((j : ℕ) → j < i → number rows (term rows j) ≡ j)
       → row-of (number rows) (term rows i) ≡ row rows i
   row-of-term i h known =
-      rw (term-law rows good i h) (row-of-meaning (number rows) (row rows) (term rows) i known (λ j k. term-law rows good j (omega arith)) (row rows i) (good .earlier i h) (good .sorted i h))
+      rw (term-law rows good i h) (row-of-meaning (number rows) (row rows) (term rows) i known
+      (λ j k. term-law rows good j (omega arith)) (row rows i) (good .earlier i h) (good .sorted i h))
 
   number-le : (i : ℕ) → i < length rows → number rows (term rows i) ≤ i
   unfolding number term

@@ -76,7 +76,8 @@ module _ (rows : List Row) (good : Good rows) where
   part-on : {u : Term} (v : Term) → OnSheet rows u → List·Memᴰ (number rows v) (parts (row-of (number rows) u)) → OnSheet rows v
   part-on {u} v s m =
       let l : number rows u < length rows = number-inside rows good s in
-      let e : Earlier (number rows u) (row-of (number rows) u) = rw (row-at-number rows good s) at (good .earlier (number rows u) l) in
+      let e : Earlier (number rows u) (row-of (number rows) u) = rw (row-at-number rows good s)
+      at (good .earlier (number rows u) l) in
       let k : number rows v < number rows u = parts-earlier (number rows u) (row-of (number rows) u) e (number rows v) m in
       let h : number rows v < length rows = omega arith in
       record { which = number rows v; inside = h; means = number-found rows good v h }
@@ -107,7 +108,8 @@ module _ (rows : List Row) (good : Good rows) where
     unfolding Sound
     step-sound i a f g = f (g a (List·Memᴰ·head refl))
 
-    named : (i a : ℕ) {b : Atom} → a < length rows → IsName (row rows a) → term rows i ≡ atom b → Inside (name (name-of (term rows a))) b → There a → There i
+    named : (i a : ℕ) {b : Atom} → a < length rows → IsName (row rows a) → term rows i ≡ atom b
+        → Inside (name (name-of (term rows a))) b → There a → There i
     unfolding There
     named i a h n e k o =
         let q : atom (name (name-of (term rows a))) ≡ term rows a = name-shown (term rows) n (term-law rows good a h) in
@@ -149,7 +151,8 @@ module _ (rows : List Row) (good : Good rows) where
     unfolding occur-rules Sound There part-rules
     rules-sound =
         each-cons Sound (λ f. here)
-        (each-row part-rules Sound rows 0 (λ i p e h. each-part Sound p (parts (row rows i)) (row-sound p (omega arith) (row rows i) (ap (row rows) (omega arith)))))
+        (each-row part-rules Sound rows 0 (λ i p e h. each-part Sound p (parts (row rows i))
+        (row-sound p (omega arith) (row rows i) (ap (row rows) (omega arith)))))
 
     reached-there : {i : ℕ} → Reached (occur-rules rows t) i → There i
     unfolding Sound
@@ -163,7 +166,8 @@ module _ (rows : List Row) (good : Good rows) where
     unfolding R occur-rules part-rules
     whole {u} {a} s m r =
         by {r = _⊢_ (a ∷ []) (number rows u)}
-        (List·Memᴰ·tail (of-row part-rules rows 0 (number rows u) (number rows u) (omega arith) (number-inside rows good s) (rw (row-at-number rows good s) (part-rule (number rows u) a _ m))))
+        (List·Memᴰ·tail (of-row part-rules rows 0 (number rows u) (number rows u) (omega arith) (number-inside rows good s)
+        (rw (row-at-number rows good s) (part-rule (number rows u) a _ m))))
         (each-cons R r (each-nil R))
 
     there-reached : {u : Term} → OnSheet rows u → Occurs (term rows t) u → R (number rows u)
@@ -175,7 +179,8 @@ module _ (rows : List Row) (good : Good rows) where
     there-reached s (key o) = whole s (List·Memᴰ·tail (List·Memᴰ·head refl)) (there-reached (on-enc rows good s .1) o)
     there-reached s (hashed o) = whole s (List·Memᴰ·head refl) (there-reached (on-hash rows good s) o)
     there-reached s (inside in-inverse o) = whole s (List·Memᴰ·head refl) (there-reached (part-on _ s (List·Memᴰ·head refl)) o)
-    there-reached s (inside (in-pubk {i = false}) o) = whole s (List·Memᴰ·head refl) (there-reached (part-on _ s (List·Memᴰ·head refl)) o)
+    there-reached s (inside (in-pubk {i = false}) o) =
+        whole s (List·Memᴰ·head refl) (there-reached (part-on _ s (List·Memᴰ·head refl)) o)
     there-reached s (inside (in-pubk {i = true} {a}) o) =
         let k = part-on (atom (asymmetric false (pubk a))) s (List·Memᴰ·head refl) in
         whole s (List·Memᴰ·head refl) (whole k (List·Memᴰ·head refl) (there-reached (part-on _ k (List·Memᴰ·head refl)) o))
@@ -190,7 +195,8 @@ module _ (rows : List Row) (good : Good rows) where
     unfolding occur-rules Below part-rules
     rules-below =
         each-cons Below t-inside
-        (each-row part-rules Below rows 0 (λ i p e h. each-part Below p (parts (row rows i)) (λ a m. let l : p < length rows = omega arith in l)))
+        (each-row part-rules Below rows 0 (λ i p e h. each-part Below p (parts (row rows i))
+        (λ a m. let l : p < length rows = omega arith in l)))
 
     pub occurs-iff : (i : ℕ) → i < length rows
         → T (marked (reach (occur-rules rows t) (length rows)) i) ↔ Occurs (term rows t) (term rows i)

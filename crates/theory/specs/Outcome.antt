@@ -96,12 +96,14 @@ unfolding steps
 steps-inside n s zero l k = each-nil _
 steps-inside n s (suc zero) l k = each-nil _
 steps-inside n s (suc (suc p)) l k =
-    each-cons _ (record { low₁ = omega arith; low₂ = omega arith; strand₁ = l; strand₂ = l }) (steps-inside n s (suc p) l (omega arith))
+    each-cons _ (record { low₁ = omega arith; low₂ = omega arith; strand₁ = l; strand₂ = l })
+    (steps-inside n s (suc p) l (omega arith))
 
 all-steps-inside : (n m : ℕ) (h : ℕ → ℕ) → m ≤ n → ((s : ℕ) → h s ≤ 16) → Each (Inside n) (all-steps h m)
 unfolding all-steps
 all-steps-inside n zero h l f = each-nil _
-all-steps-inside n (suc m) h l f = each-append _ (steps m (h m)) (steps-inside n m (h m) (omega arith) (f m)) (all-steps-inside n m h (omega arith) f)
+all-steps-inside n (suc m) h l f =
+    each-append _ (steps m (h m)) (steps-inside n m (h m) (omega arith) (f m)) (all-steps-inside n m h (omega arith) f)
 
 heights : (n : ℕ) (ts : List (List (Event ℕ))) → Each (RightTrace n) ts → (s : ℕ) → length (getD ts s []) ≤ 16
 heights n [] f s = omega arith
@@ -113,7 +115,8 @@ record NodeIn (n : ℕ) (ts : List (List (Event ℕ))) (s p : ℕ) (e : Event �
   strand : s < length ts
   known : message e < n
 
-node-in : (n : ℕ) (ts : List (List (Event ℕ))) → Each (RightTrace n) ts → (s p : ℕ) {e : Event ℕ} → getElem? (getD ts s []) p ≡ some e
+node-in : (n : ℕ) (ts : List (List (Event ℕ))) → Each (RightTrace n) ts → (s p : ℕ) {e : Event ℕ}
+    → getElem? (getD ts s []) p ≡ some e
     → NodeIn n ts s p e
 node-in n [] f s p h = absurd (not-there h)
 node-in n (t ∷ ts) f zero p h =
@@ -143,7 +146,8 @@ module _ (rows : List Row) (K : Skeleton ℕ) (d : Drawn rows K) where
   unfolding edges
   edges-inside =
       each-append _ (all-steps (height K) (length (K .strands)))
-      (all-steps-inside (length (K .strands)) (length (K .strands)) (height K) (omega arith) (heights (length rows) (K .strands) (d .traces)))
+      (all-steps-inside (length (K .strands)) (length (K .strands)) (height K) (omega arith)
+      (heights (length rows) (K .strands) (d .traces)))
       (λ e m. joined-inside e (d .orders e m))
 
   drawn-on-table : OnTable rows K

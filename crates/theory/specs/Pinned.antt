@@ -19,11 +19,13 @@ pub record ExactlyOne (bytes : List ℕ) {A : Type 0} (Question : Verdict → An
 
 -- of an accepted sheet
 abbrev OneOf : {A : Type 0} → (Verdict → Answer A → List ℕ → Type 0) → Type 0
-OneOf {A} Question = (s : Sheet) → Sound s → (a b : Answer A) (l m : List ℕ) → Question (Verdict.accepted s) a l → Question (Verdict.accepted s) b m → Same a b l m
+OneOf {A} Question = (s : Sheet) → Sound s → (a b : Answer A) (l m : List ℕ) → Question (Verdict.accepted s) a l → Question
+    (Verdict.accepted s) b m → Same a b l m
 
 module _ {X A : Type 0} (Subject : Sheet → X → Type 0) (Room : X → Type 0) (Says : X → A → List ℕ → Type 0) (lent : List ℕ)
     (one : OneOf (Asked Subject Room Says lent)) where
-  same-verdict : {bytes : List ℕ} (v : Verdict) → HasVerdict bytes v → {a b : Answer A} {l m : List ℕ} → Asked Subject Room Says lent v a l
+  same-verdict : {bytes : List ℕ} (v : Verdict) → HasVerdict bytes v → {a b : Answer A} {l m : List ℕ}
+      → Asked Subject Room Says lent v a l
       → Asked Subject Room Says lent v b m
       → Same a b l m
   same-verdict (Verdict.refused r) h bad-sheet bad-sheet = record { answer = refl; bytes = refl }
@@ -81,12 +83,17 @@ pinned bytes =
       verdict = verdict-of bytes;
       no-second = λ v w h k. verdict-one h k;
       sheet = exactly-one TheSheet Always SaysCounts [] (one-each .sheet) bytes (ask-sheet bytes);
-      within = λ t t′ S. exactly-one (HasTerms t t′ S) Always (SaysWithin t t′ S) S (one-each .within t t′ S) bytes (ask-within t t′ S bytes);
-      derivable = λ k n t. exactly-one (HasReceptionAndTerm k n t) Always (SaysDerivable k n t) [] (one-each .derivable k n t) bytes (ask-derivable k n t bytes);
+      within = λ t t′ S. exactly-one (HasTerms t t′ S) Always (SaysWithin t t′ S) S (one-each .within t t′ S) bytes
+          (ask-within t t′ S bytes);
+      derivable = λ k n t. exactly-one (HasReceptionAndTerm k n t) Always (SaysDerivable k n t) [] (one-each .derivable k n t)
+          bytes (ask-derivable k n t bytes);
       reach = λ k n. exactly-one (HasReception k n) Always (SaysReach k n) [] (one-each .reach k n) bytes (ask-reach k n bytes);
       realized = λ k. exactly-one (HasSkeleton k) Always SaysRealized [] (one-each .realized k) bytes (ask-realized k bytes);
-      map = λ source target map lent. exactly-one (HasSkeletons source target) (ImageRoom source target map lent) (SaysMap source target map lent) lent (one-each .map source target map lent) bytes (ask-map source target map lent bytes);
-      list = λ source target lent. exactly-one (HasSkeletons source target) (ListRoom source target lent) (SaysList source target lent) lent (one-each .list source target lent) bytes (ask-list source target lent bytes);
+      map = λ source target map lent. exactly-one (HasSkeletons source target) (ImageRoom source target map lent)
+          (SaysMap source target map lent) lent (one-each .map source target map lent) bytes
+          (ask-map source target map lent bytes);
+      list = λ source target lent. exactly-one (HasSkeletons source target) (ListRoom source target lent)
+          (SaysList source target lent) lent (one-each .list source target lent) bytes (ask-list source target lent bytes);
     }
 
 -- THE AGREEMENT, from bytes: "For two accepted sheets with the same TM records and the same skeleton 0, all answers about
@@ -104,7 +111,8 @@ pub record SameAnswers (s s′ : Sheet) : Type 0 where
   pub map : (map lent : List ℕ) → Alikes (AskMap 0 0 map lent) s s′
   pub list : (lent : List ℕ) → Alikes (AskList 0 0 lent) s s′
 
-pub agreement : (bytes bytes′ : List ℕ) (s s′ : Sheet) → HasVerdict bytes (Verdict.accepted s) → HasVerdict bytes′ (Verdict.accepted s′) → Alike s s′
+pub agreement : (bytes bytes′ : List ℕ) (s s′ : Sheet) → HasVerdict bytes (Verdict.accepted s)
+    → HasVerdict bytes′ (Verdict.accepted s′) → Alike s s′
     → SameAnswers s s′
 agreement bytes bytes′ s s′ h h′ e =
     let g : Agree s s′ = alike-agree s s′ e in

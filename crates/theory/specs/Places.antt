@@ -31,5 +31,6 @@ module _ {A : Type 0} where
   unfolding reversed
   in-reversed [] m = m
   in-reversed (y ∷ l) m =
-      ⊎-elim (λ k. List·Memᴰ·tail (in-reversed l k)) (λ k. ⊎-elim (λ e. List·Memᴰ·head e) (λ q. absurd (List·Memᴰ·not-nil q)) (List·Memᴰ·cases-cons k))
+      ⊎-elim (λ k. List·Memᴰ·tail (in-reversed l k)) (λ k. ⊎-elim (λ e. List·Memᴰ·head e) (λ q. absurd (List·Memᴰ·not-nil q))
+      (List·Memᴰ·cases-cons k))
       (List·Memᴰ·append-cases (reversed l) m)

@@ -57,7 +57,8 @@ unfolding edge-rules
 edge-rule (e ∷ es) (List·Memᴰ·head q) = List·Memᴰ·head (ap (λ (d : Edge). _⊢_ (code (d .1) ∷ []) (code (d .0))) q)
 edge-rule (e ∷ es) (List·Memᴰ·tail k) = List·Memᴰ·tail (edge-rule es k)
 
-each-edge : (P : Rule → Type 0) (es : List Edge) → Each (λ e. P (_⊢_ (code (e .1) ∷ []) (code (e .0)))) es → Each P (edge-rules es)
+each-edge : (P : Rule → Type 0) (es : List Edge) → Each (λ e. P (_⊢_ (code (e .1) ∷ []) (code (e .0)))) es
+    → Each P (edge-rules es)
 unfolding edge-rules
 each-edge P [] f = each-nil P
 each-edge P (e ∷ es) f = each-cons P (f e (List·Memᴰ·head refl)) (each-edge P es (λ d k. f d (List·Memᴰ·tail k)))
@@ -89,7 +90,8 @@ module _ (es : List Edge) (low : Each (λ e. Low (e .0) × Low (e .1)) es) (goal
 
   rules-sound : Each Sound (to-rules es goal)
   unfolding to-rules Sound
-  rules-sound = each-cons Sound (λ f. record { node = goal; is-low = goal-low; is = refl; leads = stop }) (each-edge Sound es edge-sound)
+  rules-sound =
+      each-cons Sound (λ f. record { node = goal; is-low = goal-low; is = refl; leads = stop }) (each-edge Sound es edge-sound)
 
   reached-found : {c : ℕ} → R c → Found c
   unfolding R Sound
@@ -126,7 +128,8 @@ step-in s zero p l = absurd (omega arith)
 step-in s (suc zero) p l = absurd (omega arith)
 step-in s (suc (suc q)) p l = go (ℕ-discrete p q) (λ k. step-in s (suc q) p k)
   where
-    go : Dec (p ≡ q) → (suc p < suc q → List·Memᴰ (edge s p) (steps s (suc q))) → List·Memᴰ (edge s p) (edge s q ∷ steps s (suc q))
+    go : Dec (p ≡ q) → (suc p < suc q → List·Memᴰ (edge s p) (steps s (suc q)))
+        → List·Memᴰ (edge s p) (edge s q ∷ steps s (suc q))
     go (yes e) f = List·Memᴰ·head (ap (edge s) e)
     go (no e) f = List·Memᴰ·tail (f (omega arith))
 
@@ -163,11 +166,17 @@ module _ {M : Type 0} (K : Skeleton M) where
 
   edge-before : Each Kept (edges K)
   unfolding edges Kept
-  edge-before = each-append Kept (all-steps (height K) (length (K .strands))) (all-steps-kept (length (K .strands))) (λ e m. listed m)
+  edge-before =
+      each-append Kept (all-steps (height K) (length (K .strands))) (all-steps-kept (length (K .strands))) (λ e m. listed m)
 
   pub before-edge : {m n : Node} → Before K m n → (o : Node) × List·Memᴰ (m, o) (edges K) × Leads (edges K) o n
   unfolding edges edge
-  before-edge (next {s} {p} h) = (_, Memᴰ·append-left (K .order) (step-in-all (height K) (length (K .strands)) s (a-strand s (omega arith)) (step-in s (height K s) p h)), stop)
+  before-edge (next {s} {p} h) = (
+    _,
+    Memᴰ·append-left (K .order)
+        (step-in-all (height K) (length (K .strands)) s (a-strand s (omega arith)) (step-in s (height K s) p h)),
+    stop,
+  )
   before-edge (listed e) = (_, Memᴰ·append-right (all-steps (height K) (length (K .strands))) e, stop)
   before-edge (chain p q) =
       let (o, e, l) = before-edge p in

@@ -119,7 +119,8 @@ module _ (rows : List Row) (good : Good rows) where
   inverse-of-law b h (Skey n) e = record { inside = h; means = rw (law rows good b h e) }
   inverse-of-law b h (Akey n) e = found b h (rw e an-akey)
   inverse-of-law b h (Pubk a) e = found b h (rw e a-pubk)
-  inverse-of-law b h (Inv a) e = let l : a < b = rw e at (good .earlier b h) in record { inside = omega arith; means = rw (law rows good b h e, inv-inv) }
+  inverse-of-law b h (Inv a) e =
+      let l : a < b = rw e at (good .earlier b h) in record { inside = omega arith; means = rw (law rows good b h e, inv-inv) }
   inverse-of-law b h (Ltk a c) e = record { inside = h; means = rw (law rows good b h e) }
   inverse-of-law b h (Pair a c) e = record { inside = h; means = rw (law rows good b h e) }
   inverse-of-law b h (Enc a c) e = record { inside = h; means = rw (law rows good b h e) }
@@ -131,7 +132,8 @@ module _ (rows : List Row) (good : Good rows) where
 
 -- What the rules reach is locally derivable
 
-module _ (rows : List Row) (good : Good rows) (withheld : ℕ → Bool) (sent : List ℕ) (in-table : (i : ℕ) → List·Memᴰ i sent → i < length rows) where
+module _ (rows : List Row) (good : Good rows) (withheld : ℕ → Bool) (sent : List ℕ)
+    (in-table : (i : ℕ) → List·Memᴰ i sent → i < length rows) where
   Here : ℕ → Type 0
   Here i = Local (OnSheet rows) (NumberSent rows sent) (NumberWithheld rows withheld) (term rows i)
 
@@ -147,7 +149,8 @@ module _ (rows : List Row) (good : Good rows) (withheld : ℕ → Bool) (sent : 
     where
       go : (b : Bool) → withheld i ≡ b → Each Sound (cond b [] (_⊢_ [] i ∷ []))
       go true w = each-nil Sound
-      go false w = each-cons Sound (λ _. rw e (an-atom (on-sheet i h e) (λ k. rw (term-injective rows good (k .which) i (k .inside) h (k .means ∙ back e), w) at (k .held)))) (each-nil Sound)
+      go false w = each-cons Sound (λ _. rw e (an-atom (on-sheet i h e)
+          (λ k. rw (term-injective rows good (k .which) i (k .inside) h (k .means ∙ back e), w) at (k .held)))) (each-nil Sound)
 
   -- each rule of a row keeps within what is locally derivable
   row-sound : (i : ℕ) → i < length rows → (r : Row) → row rows i ≡ r → Each Sound (row-rules withheld (inverse-at rows) i r)
@@ -176,11 +179,14 @@ module _ (rows : List Row) (good : Good rows) (withheld : ℕ → Bool) (sent : 
       let l = law rows good i h e in
       let k : (a < i) × (b < i) = rw e at (good .earlier i h) in
       let d : term rows (inverse-at rows b) ≡ inv (term rows b) = inverse-law rows good b (omega arith) .means in
-      each-cons Sound (λ f. rw l (encrypt (on-sheet i h l) (f a (List·Memᴰ·head refl)) (f b (List·Memᴰ·tail (List·Memᴰ·head refl)))))
+      each-cons Sound (λ f. rw l (encrypt (on-sheet i h l) (f a (List·Memᴰ·head refl))
+      (f b (List·Memᴰ·tail (List·Memᴰ·head refl)))))
       (each-cons Sound
-      (λ f. decrypt (on-sheet a (omega arith) refl) (rw l at (f i (List·Memᴰ·head refl))) (rw d at (f (inverse-at rows b) (List·Memᴰ·tail (List·Memᴰ·head refl)))))
+      (λ f. decrypt (on-sheet a (omega arith) refl) (rw l at (f i (List·Memᴰ·head refl)))
+      (rw d at (f (inverse-at rows b) (List·Memᴰ·tail (List·Memᴰ·head refl)))))
       (each-nil Sound))
-  row-sound i h (Hash a) e = let l = law rows good i h e in each-cons Sound (λ f. rw l (make-hash (on-sheet i h l) (f a (List·Memᴰ·head refl)))) (each-nil Sound)
+  row-sound i h (Hash a) e = let l = law rows good i h e in each-cons Sound
+      (λ f. rw l (make-hash (on-sheet i h l) (f a (List·Memᴰ·head refl)))) (each-nil Sound)
 
   sent-sound : (i : ℕ) → List·Memᴰ i sent → Sound (_⊢_ [] i)
   unfolding Sound Here
@@ -188,7 +194,9 @@ module _ (rows : List Row) (good : Good rows) (withheld : ℕ → Bool) (sent : 
 
   rules-sound : Each Sound (table-rules rows withheld sent)
   unfolding table-rules
-  rules-sound = each-append Sound (sent-rules sent) (each-sent Sound sent sent-sound) (each-row (row-rules withheld (inverse-at rows)) Sound rows 0 (λ i p e h. row-sound p (omega arith) (row rows i) (ap (row rows) (omega arith))))
+  rules-sound = each-append Sound (sent-rules sent) (each-sent Sound sent sent-sound)
+      (each-row (row-rules withheld (inverse-at rows)) Sound rows 0
+      (λ i p e h. row-sound p (omega arith) (row rows i) (ap (row rows) (omega arith))))
 
   reached-local : {i : ℕ} → Reached (table-rules rows withheld sent) i → Here i
   unfolding Sound
@@ -206,7 +214,8 @@ module _ (rows : List Row) (good : Good rows) (withheld : ℕ → Bool) (sent : 
   unfolding table-rules
   rule-of {t} s m =
       let h : number rows t < length rows = rw (number-place rows good s) (s .inside) in
-      Memᴰ·append-right (sent-rules sent) (of-row (row-rules withheld (inverse-at rows)) rows 0 (number rows t) (number rows t) (omega arith) h (rw (row-at-number rows good s) m))
+      Memᴰ·append-right (sent-rules sent) (of-row (row-rules withheld (inverse-at rows)) rows 0 (number rows t) (number rows t)
+      (omega arith) h (rw (row-at-number rows good s) m))
 
   atom-row-rules : (a : Atom) (i : ℕ)
       → row-rules withheld (inverse-at rows) i (row-of (number rows) (atom a)) ≡ atom-rules withheld (inverse-at rows) i
@@ -224,7 +233,13 @@ module _ (rows : List Row) (good : Good rows) (withheld : ℕ → Bool) (sent : 
   free-atom a s n = go (withheld (number rows (atom a))) refl
     where
       go : (b : Bool) → withheld (number rows (atom a)) ≡ b → b ≡ false
-      go true e = absurd (n (record { which = s .which; inside = s .inside; held = rw (← number-place rows good s, e) tt; means = s .means }))
+      go true e = absurd (n (record {
+        which = s .which;
+        inside = s .inside;
+        held = rw (← number-place rows good s, e) tt;
+        means =
+            s .means;
+      }))
       go false e = refl
 
   sent-reached : {t : Term} → NumberSent rows sent t → R (number rows t)
@@ -236,7 +251,8 @@ module _ (rows : List Row) (good : Good rows) (withheld : ℕ → Bool) (sent : 
 
   atom-reached : {a : Atom} → OnSheet rows (atom a) → ¬ NumberWithheld rows withheld a → R (number rows (atom a))
   unfolding R atom-rules
-  atom-reached {a} s n = by {r = _⊢_ [] (number rows (atom a))} (rule-of s (rw (atom-row-rules a (number rows (atom a)), free-atom a s n) (List·Memᴰ·head refl))) (each-nil R)
+  atom-reached {a} s n = by {r = _⊢_ [] (number rows (atom a))}
+      (rule-of s (rw (atom-row-rules a (number rows (atom a)), free-atom a s n) (List·Memᴰ·head refl))) (each-nil R)
 
   inverse-number : {k : Term} → OnSheet rows k → inverse-at rows (number rows k) ≡ number rows (inv k)
   inverse-number {k} s =
@@ -249,21 +265,30 @@ module _ (rows : List Row) (good : Good rows) (withheld : ℕ → Bool) (sent : 
   local-reached (a-tag s) = by (rule-of s (List·Memᴰ·head refl)) (each-nil R)
   local-reached (a-mesg s) = by (rule-of s (List·Memᴰ·head refl)) (each-nil R)
   local-reached (an-atom s n) = atom-reached s n
-  local-reached (join s d e) = by (rule-of s (List·Memᴰ·head refl)) (each-cons R (local-reached d) (each-cons R (local-reached e) (each-nil R)))
-  local-reached (split-left s d) = by (rule-of (local-on-sheet _ _ _ d) (List·Memᴰ·tail (List·Memᴰ·head refl))) (each-cons R (local-reached d) (each-nil R))
-  local-reached (split-right s d) = by (rule-of (local-on-sheet _ _ _ d) (List·Memᴰ·tail (List·Memᴰ·tail (List·Memᴰ·head refl)))) (each-cons R (local-reached d) (each-nil R))
-  local-reached (encrypt s d e) = by (rule-of s (List·Memᴰ·head refl)) (each-cons R (local-reached d) (each-cons R (local-reached e) (each-nil R)))
-  local-reached (decrypt s d e) = by (rule-of (local-on-sheet _ _ _ d) (List·Memᴰ·tail (List·Memᴰ·head refl))) (each-cons R (local-reached d) (each-cons R (rw (inverse-number (on-enc rows good (local-on-sheet _ _ _ d) .1)) (local-reached e)) (each-nil R)))
+  local-reached (join s d e) =
+      by (rule-of s (List·Memᴰ·head refl)) (each-cons R (local-reached d) (each-cons R (local-reached e) (each-nil R)))
+  local-reached (split-left s d) =
+      by (rule-of (local-on-sheet _ _ _ d) (List·Memᴰ·tail (List·Memᴰ·head refl))) (each-cons R (local-reached d) (each-nil R))
+  local-reached (split-right s d) = by (rule-of (local-on-sheet _ _ _ d) (List·Memᴰ·tail (List·Memᴰ·tail (List·Memᴰ·head refl))))
+      (each-cons R (local-reached d) (each-nil R))
+  local-reached (encrypt s d e) =
+      by (rule-of s (List·Memᴰ·head refl)) (each-cons R (local-reached d) (each-cons R (local-reached e) (each-nil R)))
+  local-reached (decrypt s d e) = by (rule-of (local-on-sheet _ _ _ d) (List·Memᴰ·tail (List·Memᴰ·head refl)))
+      (each-cons R (local-reached d) (each-cons R (rw (inverse-number (on-enc rows good (local-on-sheet _ _ _ d) .1))
+      (local-reached e)) (each-nil R)))
   local-reached (make-hash s d) = by (rule-of s (List·Memᴰ·head refl)) (each-cons R (local-reached d) (each-nil R))
 
   -- THE RULES DECIDE: reached is derivable, in the set that ranges over all terms
   pub reached-iff-derivable : (i : ℕ) → i < length rows
       → Reached (table-rules rows withheld sent) i ↔ Derivable (NumberSent rows sent) (NumberWithheld rows withheld) (term rows i)
   unfolding R Here
-  reached-iff-derivable i h = (λ r. local .1 (reached-local r), λ d. rw (number-term rows good i h) at (local-reached (local .0 d)))
+  reached-iff-derivable i h =
+      (λ r. local .1 (reached-local r), λ d. rw (number-term rows good i h) at (local-reached (local .0 d)))
     where
-      local : Derivable (NumberSent rows sent) (NumberWithheld rows withheld) (term rows i) ↔ Local (OnSheet rows) (NumberSent rows sent) (NumberWithheld rows withheld) (term rows i)
-      local = derivable-iff-local (OnSheet rows) (NumberSent rows sent) (NumberWithheld rows withheld) (sheet-closed rows good) (λ t g. on-sheet (g .which) (in-table (g .which) (g .listed)) (g .means)) (on-sheet i h refl)
+      local : Derivable (NumberSent rows sent) (NumberWithheld rows withheld) (term rows i) ↔ Local (OnSheet rows)
+          (NumberSent rows sent) (NumberWithheld rows withheld) (term rows i)
+      local = derivable-iff-local (OnSheet rows) (NumberSent rows sent) (NumberWithheld rows withheld) (sheet-closed rows good)
+          (λ t g. on-sheet (g .which) (in-table (g .which) (g .listed)) (g .means)) (on-sheet i h refl)
 
   -- The computation
 
@@ -298,9 +323,12 @@ module _ (rows : List Row) (good : Good rows) (withheld : ℕ → Bool) (sent : 
   unfolding table-rules Below
   rules-below =
       each-append Below (sent-rules sent) (each-sent Below sent in-table)
-      (each-row (row-rules withheld (inverse-at rows)) Below rows 0 (λ i p e h. let q : p ≡ i = omega arith in row-below p (omega arith) (row rows i) (rw q (good .earlier i h))))
+      (each-row (row-rules withheld (inverse-at rows)) Below rows 0
+      (λ i p e h. let q : p ≡ i = omega arith in row-below p (omega arith) (row rows i) (rw q (good .earlier i h))))
 
   pub derivable-decided : (i : ℕ) → i < length rows
-      → T (marked (reach (table-rules rows withheld sent) (length rows)) i) ↔ Derivable (NumberSent rows sent) (NumberWithheld rows withheld) (term rows i)
+      → T (marked (reach (table-rules rows withheld sent) (length rows)) i) ↔ Derivable (NumberSent rows sent)
+      (NumberWithheld rows withheld) (term rows i)
   unfolding InRange Below
-  derivable-decided i h = Iff·trans (reach-iff (length rows) (table-rules rows withheld sent) rules-below i) (reached-iff-derivable i h)
+  derivable-decided i h =
+      Iff·trans (reach-iff (length rows) (table-rules rows withheld sent) rules-below i) (reached-iff-derivable i h)

@@ -131,7 +131,8 @@ module _ (rows : List Row) (good : Good rows) (K : Skeleton ℕ) (ok : OnTable r
       → T (some-of (eqb i) l) ↔ List·Memᴰ (term rows i) (map (term rows) l)
   listed-iff l h i k = (
     λ q. let (x, m, e) = some-found (eqb i) l q in rw (eqb→eq i x e) (Memᴰ·map (term rows) m),
-    λ m. let (j, d, e) = Memᴰ·of-map (term rows) l m in finds-some (eqb i) l d (rw (term-injective rows good j i (h j d) k e) (eqb-refl i)),
+    λ m. let (j, d, e) = Memᴰ·of-map (term rows) l m in finds-some (eqb i) l d
+        (rw (term-injective rows good j i (h j d) k e) (eqb-refl i)),
   )
 
   -- Origination
@@ -145,7 +146,8 @@ module _ (rows : List Row) (good : Good rows) (K : Skeleton ℕ) (ok : OnTable r
   send-at (send t) a h = at-means (term rows) K a
 
   module _ (t : ℕ) (h : t < length rows) where
-    carried : {n : Node} {e : Event ℕ} → At K n e → T (carries rows K t (message e)) ↔ Carries (term rows t) (term rows (message e))
+    carried : {n : Node} {e : Event ℕ} → At K n e
+        → T (carries rows K t (message e)) ↔ Carries (term rows t) (term rows (message e))
     carried a = carries-iff rows good K t _ h (ok .messages _ _ a)
 
     -- an event of the strand, before the node, that carries the term
@@ -181,8 +183,10 @@ module _ (rows : List Row) (good : Good rows) (K : Skeleton ℕ) (ok : OnTable r
         let (s, r) = both (eqb (x .0 .strand) (n .strand)) _ q in
         let (l, c) = both (ltb (x .0 .position) (n .position)) _ r in
         let a : At K (x .0) (x .1) = listed-event K x m in
-        let b : At K (record { strand = n .strand; position = x .0 .position }) (x .1) = record { is = rw (eqb→eq (x .0 .strand) (n .strand) s) at (a .is) } in
-        o .first (x .0 .position) (on-message (term rows) (x .1)) (ltb→lt (x .0 .position) (n .position) l) (at-means (term rows) K b) (rw message-means (carried a .0 c))
+        let b : At K (record { strand = n .strand; position = x .0 .position }) (x .1) =
+        record { is = rw (eqb→eq (x .0 .strand) (n .strand) s) at (a .is) } in
+        o .first (x .0 .position) (on-message (term rows) (x .1)) (ltb→lt (x .0 .position) (n .position) l)
+        (at-means (term rows) K b) (rw message-means (carried a .0 c))
 
     pub origin-found : (n : Node) → Origin L (term rows t) n → (e : Event ℕ) × At K n e × T (is-origin rows K t (n, e))
     unfolding is-origin is-send message
@@ -209,7 +213,8 @@ module _ (rows : List Row) (good : Good rows) (K : Skeleton ℕ) (ok : OnTable r
   leads-before (step e l) d = edge-leads K e l
 
   module _ (n : Node) (n-low : Low n) (n-inside : code n < length (K .strands) * 16) (u : ℕ) (n-is : At K n (recv u)) where
-    before-iff : (m : Node) → Low m → T (marked (reach (to-rules (edges K) n) (length (K .strands) * 16)) (code m)) ↔ Leads (edges K) m n
+    before-iff : (m : Node) → Low m
+        → T (marked (reach (to-rules (edges K) n) (length (K .strands) * 16)) (code m)) ↔ Leads (edges K) m n
     before-iff m h = leads-decided (edges K) (ok .low) n n-low (length (K .strands) * 16) (λ e k. ok .nodes e k .0) n-inside m h
 
     sent-to : (t : Term) → SentBefore L n t → NumberSent rows (sent rows K n) t
@@ -220,8 +225,14 @@ module _ (rows : List Row) (good : Good rows) (K : Skeleton ℕ) (ok : OnTable r
         let (w, z, y) = send-means (term rows) e q in
         let b : At K m (send w) = rw z at a in
         let (o, f, l) = before-edge K (before-meant (term rows) K (s .before)) in
-        let h : T (marked (reach (to-rules (edges K) n) (length (K .strands) * 16)) (code m)) = before-iff m (ok .positions m _ b) .1 (step f l) in
-        record { which = w; listed = Memᴰ·map (λ x. message (x .1)) (keeps (sent-before rows K n) (events K) (event-listed K b) h); means = y }
+        let h : T (marked (reach (to-rules (edges K) n) (length (K .strands) * 16)) (code m)) = before-iff m
+        (ok .positions m _ b) .1 (step f l) in
+        record {
+          which = w;
+          listed = Memᴰ·map (λ x. message (x .1))
+              (keeps (sent-before rows K n) (events K) (event-listed K b) h);
+          means = y;
+        }
 
     not-sent : {m : Node} (e : Event ℕ) → At K m e → T (is-send e) → ¬ (m ≡ n)
     unfolding is-send
@@ -261,7 +272,8 @@ module _ (rows : List Row) (good : Good rows) (K : Skeleton ℕ) (ok : OnTable r
     withheld-uniq : List·Memᴰ i (K .uniq) → T (originates rows K i) → T (withheld rows K i)
     unfolding withheld
     withheld-uniq l o =
-        or-right is-non (is-uniq && originates rows K i) (pair-up is-uniq (originates rows K i) (finds-some (eqb i) (K .uniq) l (eqb-refl i)) o)
+        or-right is-non (is-uniq && originates rows K i) (pair-up is-uniq (originates rows K i)
+        (finds-some (eqb i) (K .uniq) l (eqb-refl i)) o)
 
     withheld-cases : T (withheld rows K i) → T is-non ⊎ (T is-uniq × T (originates rows K i))
     unfolding withheld
@@ -285,7 +297,12 @@ module _ (rows : List Row) (good : Good rows) (K : Skeleton ℕ) (ok : OnTable r
       (λ h. rw (w .means) at (listed-iff (K .non) (ok .nons) i (w .inside) .0 h))
       (λ h.
       let (n, o) = origin-iff i (w .inside) .0 (h .1) in
-      record { listed = rw (w .means) at (listed-iff (K .uniq) (ok .uniqs) i (w .inside) .0 (h .0)); node = n; origin = rw (w .means) at o })
+      record {
+        listed = rw (w .means) at (listed-iff (K .uniq) (ok .uniqs) i (w .inside) .0 (h .0));
+        node = n;
+        origin =
+            rw (w .means) at o;
+      })
       (withheld-cases i (w .held))
 
   -- THE QUESTION IS DECIDED
@@ -300,8 +317,10 @@ module _ (rows : List Row) (good : Good rows) (K : Skeleton ℕ) (ok : OnTable r
     unfolding DerivableBefore reached-before
     before-decided i h =
         Iff·trans (derivable-decided rows good (withheld rows K) (sent rows K n) sent-inside i h) (
-          derivable-mono (NumberSent rows (sent rows K n)) (SentBefore L n) (NumberWithheld rows (withheld rows K)) (Withheld L) (sent-from n n-low n-inside u n-is) withheld-to,
-          derivable-mono (SentBefore L n) (NumberSent rows (sent rows K n)) (Withheld L) (NumberWithheld rows (withheld rows K)) (sent-to n n-low n-inside u n-is) withheld-from,
+          derivable-mono (NumberSent rows (sent rows K n)) (SentBefore L n) (NumberWithheld rows (withheld rows K)) (Withheld L)
+              (sent-from n n-low n-inside u n-is) withheld-to,
+          derivable-mono (SentBefore L n) (NumberSent rows (sent rows K n)) (Withheld L) (NumberWithheld rows (withheld rows K))
+              (sent-to n n-low n-inside u n-is) withheld-from,
         )
 
   -- REALIZED IS DECIDED
@@ -318,14 +337,16 @@ module _ (rows : List Row) (good : Good rows) (K : Skeleton ℕ) (ok : OnTable r
   recv-means (recv u) q = (u, refl, cc)
   recv-means (send u) q = let z : _≡_ {A = ℕ} 0 1 = cc in absurd (omega arith)
 
-  pub reception : {n : Node} {u : ℕ} → At K n (recv u) → T (marked (reached-before rows K n) u) ↔ DerivableBefore L n (term rows u)
+  pub reception : {n : Node} {u : ℕ} → At K n (recv u)
+      → T (marked (reached-before rows K n) u) ↔ DerivableBefore L n (term rows u)
   unfolding message
   reception {n} {u} a = before-decided n (ok .positions n (recv u) a) (node-inside a) u a u (ok .messages n (recv u) a)
 
   not-open : (n : Node) (e : Event ℕ) → Realized L → At K n e → T (not (is-open rows K (n, e)))
   unfolding is-open is-send message Realized on-message
   not-open n (send t) r a = tt
-  not-open n (recv t) r a = not-not-iff (marked (reached-before rows K n) t) .1 (reception a .1 (r n (term rows t) (at-means (term rows) K a)))
+  not-open n (recv t) r a =
+      not-not-iff (marked (reached-before rows K n) t) .1 (reception a .1 (r n (term rows t) (at-means (term rows) K a)))
 
   opened : (n : Node) (t : ℕ) → T (not (is-open rows K (n, recv t))) → T (marked (reached-before rows K n) t)
   unfolding is-open is-send message
@@ -338,6 +359,7 @@ module _ (rows : List Row) (good : Good rows) (K : Skeleton ℕ) (ok : OnTable r
         let (e, b, q) = at-meant (term rows) K a in
         let (u, z, y) = recv-means e q in
         let c : At K n (recv u) = rw z at b in
-        rw y at (reception c .0 (opened n u (all-each (λ x. not (is-open rows K x)) (events K) h (n, recv u) (event-listed K c)))),
+        rw y at (reception c .0 (opened n u (all-each (λ x. not (is-open rows K x)) (events K) h (n, recv u)
+        (event-listed K c)))),
     λ r. each-all (λ x. not (is-open rows K x)) (events K) λ x m. not-open (x .0) (x .1) r (listed-event K x m),
   )

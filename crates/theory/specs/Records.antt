@@ -148,9 +148,11 @@ event-message (suc d) t = refl
 each-upto : {A : Type 0} (P : A → Type 0) (n : ℕ) (f : ℕ → A) → ((i : ℕ) → i < n → P (f i)) → Each P (upto n f)
 unfolding upto
 each-upto P zero f h = each-nil P
-each-upto P (suc n) f h = each-append P (upto n f) (each-upto P n f (λ i l. h i (omega arith))) (each-cons P (h n (omega arith)) (each-nil P))
+each-upto P (suc n) f h = each-append P (upto n f) (each-upto P n f (λ i l. h i (omega arith)))
+    (each-cons P (h n (omega arith)) (each-nil P))
 
-told-ST : (s : State) (rest : List ℕ) {r : Record} → read-ST (length (s .rows)) (length (in-work s .strands)) rest ≡ says r → Told ST s rest r
+told-ST : (s : State) (rest : List ℕ) {r : Record} → read-ST (length (s .rows)) (length (in-work s .strands)) rest ≡ says r
+    → Told ST s rest r
 unfolding read-ST Right mark-of size event-in event-right
 told-ST s rest e =
     let h = getD rest 2 0 in
@@ -163,13 +165,19 @@ told-ST s rest e =
     let (x, y) = both (leb 1 h) (leb h most-height) (a .test) in
     let known : Each (λ e. message e < terms) (upto h (event-in rest)) =
     each-upto _ h (event-in rest) λ i l.
-    rw event-message (ltb→lt _ _ (both (leb (getD rest (3 + 2 * i) 0) 1) _ (every-true h (event-right terms rest) (c .test) i l) .1)) in
+    rw event-message (ltb→lt _ _ (both (leb (getD rest (3 + 2 * i) 0) 1) _
+    (every-true h (event-right terms rest) (c .test) i l) .1)) in
     told (c .then)
     (record {
       mark = refl;
       right = record {
         room = ltb→lt _ _ (p .test);
-        right = record { some-event = rw length-upto (leb→le 1 h x); low = rw length-upto (leb→le h most-height y); known = known };
+        right = record {
+          some-event = rw length-upto (leb→le 1 h x);
+          low = rw length-upto (leb→le h most-height y);
+          known =
+              known;
+        };
       };
       whole = rw length-upto (leb→le _ _ (b .test));
     })
@@ -184,7 +192,12 @@ told-OR s rest e =
     let q = passed (leb 6 (length rest)) 1 _ (p .then) in
     let a = passed (sends (event-at K m) && receives (event-at K n)) 7 _ (q .then) in
     let (x, y) = both (sends (event-at K m)) (receives (event-at K n)) (a .test) in
-    told (a .then) (record { mark = refl; right = record { room = ltb→lt _ _ (p .test); from = x; to = y }; whole = leb→le _ _ (q .test) })
+    told (a .then) (record {
+      mark = refl;
+      right = record { room = ltb→lt _ _ (p .test); from = x; to = y };
+      whole = leb→le _ _
+          (q .test);
+    })
 
 -- an atom, before it is said whether NO or UO
 record ToldAtom (most : ℕ) (says-of : ℕ → Record) (rows : List Row) (there : ℕ) (rest : List ℕ) (r : Record) : Type 0 where
@@ -201,7 +214,13 @@ told-atom most says-of rows there rest {r} e =
     let q = passed (leb 3 (length rest)) 1 _ (p .then) in
     let a = passed (an-atom rows (getD rest 2 0)) 7 _ (q .then) in
     let z : says-of (getD rest 2 0) ≡ r = cc (a .then) in
-    record { atom = getD rest 2 0; is = z; right = record { room = ltb→lt _ _ (p .test); atom = a .test }; whole = leb→le _ _ (q .test) }
+    record {
+      atom = getD rest 2 0;
+      is = z;
+      right = record { room = ltb→lt _ _ (p .test); atom = a .test };
+      whole = leb→le _ _
+          (q .test);
+    }
 
 told-as : (m : Mark) (s : State) (rest : List ℕ) {r : Record} → 2 ≤ length rest → read-as m s rest ≡ says r → Told m s rest r
 unfolding read-as Right mark-of size
@@ -241,7 +260,11 @@ was-read s rest e =
     let g = given (marked-as (getD rest 0 0) (getD rest 1 0) (may-follow (s .last))) 2 _ (p .then) in
     let t = told-as (g .what) s rest (leb→le _ _ (p .test)) (g .then) in
     record {
-      allowed = record { next = rw (t .mark) (found-mark (getD rest 0 0) (getD rest 1 0) (may-follow (s .last)) (g .is)); right = t .right };
+      allowed = record {
+        next = rw (t .mark) (found-mark (getD rest 0 0) (getD rest 1 0) (may-follow (s .last)) (g .is));
+        right =
+            t .right;
+      };
       whole = t .whole;
     }
 

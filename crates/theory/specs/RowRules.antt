@@ -26,4 +26,5 @@ module _ (f : ℕ → Row → List Rule) where
   unfolding rules-from
   each-row P [] n g = each-nil P
   each-row P (q ∷ rs) n g =
-      each-append P _ (g 0 n (omega arith) (omega arith)) (each-row P rs (suc n) (λ i p e h. g (suc i) p (omega arith) (omega arith)))
+      each-append P _ (g 0 n (omega arith) (omega arith)) (each-row P rs (suc n)
+      (λ i p e h. g (suc i) p (omega arith) (omega arith)))

@@ -77,7 +77,8 @@ module _ (rules : List Rule) where
       → Sound rules (pass rs s)
   unfolding pass
   pass-sound [] sub s h = h
-  pass-sound (r ∷ rs) sub s h = pass-sound rs (λ q m. sub q (List·Memᴰ·tail m)) (fire s r) (fire-sound s r (sub r (List·Memᴰ·head refl)) h)
+  pass-sound (r ∷ rs) sub s h =
+      pass-sound rs (λ q m. sub q (List·Memᴰ·tail m)) (fire s r) (fire-sound s r (sub r (List·Memᴰ·head refl)) h)
 
   passes-sound : (k : ℕ) (s : List Bool) → Sound rules s → Sound rules (passes rules k s)
   unfolding passes
@@ -96,7 +97,8 @@ settled s (r ∷ rs) = kept s r && settled s rs
 each-ready : (s : List Bool) (is : List ℕ) → ((i : ℕ) → List·Memᴰ i is → T (marked s i)) → T (ready s is)
 unfolding ready
 each-ready s [] h = tt
-each-ready s (j ∷ is) h = pair-up (marked s j) (ready s is) (h j (List·Memᴰ·head refl)) (each-ready s is (λ i m. h i (List·Memᴰ·tail m)))
+each-ready s (j ∷ is) h = pair-up (marked s j) (ready s is) (h j (List·Memᴰ·head refl))
+    (each-ready s is (λ i m. h i (List·Memᴰ·tail m)))
 
 settled-each : (s : List Bool) (rs : List Rule) → T (settled s rs) → (r : Rule) → List·Memᴰ r rs → T (kept s r)
 unfolding settled
@@ -106,7 +108,8 @@ settled-each s (q ∷ rs) h r (List·Memᴰ·tail m) = settled-each s rs (both (
 pub settled-complete : (rules : List Rule) (s : List Bool) → T (settled s rules) → {i : ℕ} → Reached rules i → T (marked s i)
 unfolding kept
 settled-complete rules s h (by {r = r} m f) =
-    implied (ready s (r .needs)) (marked s (r .gives)) (settled-each s rules h r m) (each-ready s (r .needs) (λ i k. settled-complete rules s h (f i k)))
+    implied (ready s (r .needs)) (marked s (r .gives)) (settled-each s rules h r m)
+    (each-ready s (r .needs) (λ i k. settled-complete rules s h (f i k)))
 
 -- Passes settle: each that changes something marks one more
 
@@ -203,7 +206,8 @@ module _ (n : ℕ) where
         ⊎-map (λ h. h .0) (λ l. omega (arith, count-le (pass rules s), length-pass rules s)) (pass-cases rules range s e)
     passes-settle (suc k) s e =
         let rest = passes-settle k (pass rules s) (length-pass rules s ∙ e) in
-        ⊎-elim (λ h. inl (rw (h .1, passes-still k s (h .1)) (h .0))) (λ l. ⊎-map (λ h. h) (λ m. omega arith) rest) (pass-cases rules range s e)
+        ⊎-elim (λ h. inl (rw (h .1, passes-still k s (h .1)) (h .0))) (λ l. ⊎-map (λ h. h) (λ m. omega arith) rest)
+        (pass-cases rules range s e)
 
     reach-settled : T (settled (reach rules n) rules)
     unfolding reach

@@ -45,12 +45,18 @@ module _ (K L : Skeleton Term) (eased : Eased K L) where
   before-eased (chain p q) = chain (before-eased p) (before-eased q)
 
   origin-back : {t : Term} {n : Node} → Origin L t n → Origin K t n
-  origin-back o = record { said = o .said; at = at-back (o .at); carries = o .carries; first = λ p e l h. o .first p e l (at-eased h) }
+  origin-back o =
+      record { said = o .said; at = at-back (o .at); carries = o .carries; first = λ p e l h. o .first p e l (at-eased h) }
 
   withheld-back : (a : Atom) → Withheld L a → Withheld K a
   unfolding Withheld
   withheld-back a =
-      ⊎-map (eased .fewer-non (atom a)) (λ g. record { listed = eased .fewer-uniq (atom a) (g .listed); node = g .node; origin = origin-back (g .origin) })
+      ⊎-map (eased .fewer-non (atom a)) (λ g. record {
+        listed = eased .fewer-uniq (atom a) (g .listed);
+        node = g .node;
+        origin =
+            origin-back (g .origin);
+      })
 
   pub realized-stays : (n : Node) (t : Term) → DerivableBefore K n t → DerivableBefore L n t
   unfolding DerivableBefore

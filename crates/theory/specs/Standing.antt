@@ -1,5 +1,5 @@
--- What holds of all that is read so far: the table is fair, each skeleton is drawn on it within the limits, and the last record tells
--- which lists are still empty.
+-- What holds of all that is read so far: the table is fair, each skeleton is drawn on it within the limits, and the last record
+-- tells which lists are still empty.
 use mathlib.Core.Path.{_≡_, refl, _∙_, sym as back}
 use mathlib.Core.Logic.{_≢_, _⊎_, inl, inr, ⊎-elim}
 use mathlib.Core.List.{List, [], _∷_, _++_, List·Memᴰ·head, List·Memᴰ·tail}
@@ -75,15 +75,19 @@ module _ (rows : List Row) (r : Row) where
     fair-more =
         record {
           few = rw length-append (omega (arith, right .room));
-          earlier-args = λ i h. ⊎-elim (λ l. rw (old i l) at (fair .earlier-args i l)) (λ e. rw (is-last i e) (rw e earlier-r)) (old-or-last i h);
+          earlier-args = λ i h. ⊎-elim (λ l. rw (old i l) at (fair .earlier-args i l)) (λ e. rw (is-last i e) (rw e earlier-r))
+              (old-or-last i h);
           sorted-args = λ i h.
               ⊎-elim
-              (λ l. sorted-along (row rows) (row more) i (λ j k. old j (omega arith)) (row more i) (rw (old i l) at (fair .earlier-args i l)) (rw (old i l) at (fair .sorted-args i l)))
-              (λ e. rw (is-last i e) (sorted-along (row rows) (row more) (length rows) old r earlier-r sorted-r)) (old-or-last i h);
+              (λ l. sorted-along (row rows) (row more) i (λ j k. old j (omega arith)) (row more i)
+              (rw (old i l) at (fair .earlier-args i l)) (rw (old i l) at (fair .sorted-args i l)))
+              (λ e. rw (is-last i e) (sorted-along (row rows) (row more) (length rows) old r earlier-r sorted-r))
+              (old-or-last i h);
           distinct = λ i j h k e. go i j e (old-or-last i h) (old-or-last j k);
         }
       where
-        go : (i j : ℕ) → row more i ≡ row more j → (i < length rows) ⊎ (i ≡ length rows) → (j < length rows) ⊎ (j ≡ length rows) → i ≡ j
+        go : (i j : ℕ) → row more i ≡ row more j → (i < length rows) ⊎ (i ≡ length rows) → (j < length rows) ⊎ (j ≡ length rows)
+            → i ≡ j
         go i j e (inl l) (inl m) = fair .distinct i j l m (old i l ∙ (e ∙ back (old j m)))
         go i j e (inl l) (inr q) = absurd (not-old i l (old i l ∙ (e ∙ is-last j q)))
         go i j e (inr p) (inl m) = absurd (not-old j m (old j m ∙ (back e ∙ is-last i p)))
@@ -203,7 +207,12 @@ pub start-kept : Kept start
 unfolding start rank in-work blank
 start-kept =
     record {
-      table = record { few = omega arith; earlier-args = λ i h. absurd (omega arith); sorted-args = λ i h. absurd (omega arith); distinct = λ i j h. absurd (omega arith) };
+      table = record {
+        few = omega arith;
+        earlier-args = λ i h. absurd (omega arith);
+        sorted-args = λ i h. absurd (omega arith);
+        distinct = λ i j h. absurd (omega arith);
+      };
       few-skeletons = omega arith;
       drawings = each-nil _;
       in-order = record {
@@ -279,7 +288,8 @@ module _ (s : State) (kept : Kept s) where
       })
 
   -- the skeleton in work is drawn anew
-  redrawn-kept : (m : Mark) (L : Skeleton ℕ) → 4 ≤ rank (some m) → HasStrand L → Drawn (s .rows) L → (rank (some m) ≤ 4 → L .order ≡ [])
+  redrawn-kept : (m : Mark) (L : Skeleton ℕ) → 4 ≤ rank (some m) → HasStrand L → Drawn (s .rows) L
+      → (rank (some m) ≤ 4 → L .order ≡ [])
       → (rank (some m) ≤ 5 → L .non ≡ [])
       → (rank (some m) ≤ 6 → L .uniq ≡ [])
       → Kept (redrawn m s L)
@@ -312,7 +322,8 @@ module _ (s : State) (kept : Kept s) where
   unfolding after rank mark-of Right
   kept-term r a =
       let k = may-TM (s .last) (a .next) in
-      undrawn TM (s .rows ++ (r ∷ [])) (omega arith) (λ h. absurd (omega arith)) (o .no-drawing k) (fair-more (s .rows) r (kept .table) (a .right))
+      undrawn TM (s .rows ++ (r ∷ [])) (omega arith) (λ h. absurd (omega arith)) (o .no-drawing k)
+      (fair-more (s .rows) r (kept .table) (a .right))
 
   -- all skeletons so far have a strand, where another may begin
   all-begun : (rank (s .last) ≤ 2) ⊎ (4 ≤ rank (s .last)) → Each HasStrand (s .drawn)

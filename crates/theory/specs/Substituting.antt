@@ -40,7 +40,15 @@ inv-apply σ (hash t) h = refl
 -- The plain substitution, and one after another
 
 unfoldable pub plain : Subst
-plain = record { to-mesg = mesg; to-text = λ n. n; to-datum = λ n. n; to-name = λ n. n; to-sym = skey; to-asym = λ n. (false, akey n) }
+plain = record {
+  to-mesg = mesg;
+  to-text = λ n. n;
+  to-datum = λ n. n;
+  to-name = λ n. n;
+  to-sym = skey;
+  to-asym = λ n.
+      (false, akey n);
+}
 
 turned-false : (i : Bool) → turned i false ≡ i
 unfolding turned
@@ -144,7 +152,8 @@ module _ (σ τ : Subst) where
   unfolding apply on-atom
   names-agree a e = cc
 
-  keys-agree : (n : ℕ) → apply σ (atom (asymmetric false (akey n))) ≡ apply τ (atom (asymmetric false (akey n))) → σ .to-asym n ≡ τ .to-asym n
+  keys-agree : (n : ℕ) → apply σ (atom (asymmetric false (akey n))) ≡ apply τ (atom (asymmetric false (akey n)))
+      → σ .to-asym n ≡ τ .to-asym n
   unfolding apply on-atom turned on-asym
   keys-agree n e =
       let p : σ .to-asym n .0 ≡ τ .to-asym n .0 = cc in

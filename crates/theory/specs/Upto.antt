@@ -1,4 +1,4 @@
--- The laws of `upto` and of tests over it: by them a table and a count mean a list, and a store after the last of them appends to it.
+-- The laws of `upto` and of tests over it: by them a table and a count mean a list, and a store after the last of them appends.
 use Prim.Native.Nat.{ℕ, zero, suc, _+_, _≤_, _<_}
 use mathlib.Core.Path.{_≡_, refl, sym, ap, _∙_}
 use mathlib.Core.Bool.{Bool, true, false, _||_, or-true}
@@ -56,7 +56,8 @@ module _ {A : Type 0} where
       go false b c = refl
 
   -- a search that counts up and looks at all
-  pub some-next : (p : A → Bool) (f : ℕ → A) (i : ℕ) (b : Bool) → b ≡ some-of p (upto i f) → (b || p (f i)) ≡ some-of p (upto (i + 1) f)
+  pub some-next : (p : A → Bool) (f : ℕ → A) (i : ℕ) (b : Bool) → b ≡ some-of p (upto i f)
+      → (b || p (f i)) ≡ some-of p (upto (i + 1) f)
   unfolding upto
   some-next p f i b e = rw (add-one, some-snoc p (upto i f) (f i), e)
 
@@ -65,7 +66,8 @@ module _ {A : Type 0} where
   unfolding upto some-of
   some-none p f = refl
 
-  pub some-more : (p : A → Bool) (f : ℕ → A) (i : ℕ) → some-of p (upto i f) ≡ false → p (f i) ≡ false → some-of p (upto (i + 1) f) ≡ false
+  pub some-more : (p : A → Bool) (f : ℕ → A) (i : ℕ) → some-of p (upto i f) ≡ false → p (f i) ≡ false
+      → some-of p (upto (i + 1) f) ≡ false
   unfolding upto
   some-more p f i h e = rw (add-one, some-snoc p (upto i f) (f i), h, e)
 

@@ -25,7 +25,8 @@ verdict-after bytes (read s) h =
 -- there is a verdict
 unfoldable pub verdict-of : (bytes : List ℕ) → TheVerdict bytes
 unfolding verdict-after reads start
-verdict-of bytes = verdict-after bytes (reads (suc (length bytes)) start 0 bytes) (reads-read (suc (length bytes)) start 0 bytes (omega arith))
+verdict-of bytes =
+    verdict-after bytes (reads (suc (length bytes)) start 0 bytes) (reads-read (suc (length bytes)) start 0 bytes (omega arith))
 
 -- there is no second
 pub verdict-one : {bytes : List ℕ} {v w : Verdict} → HasVerdict bytes v → HasVerdict bytes w → v ≡ w
