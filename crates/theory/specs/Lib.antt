@@ -1,0 +1,49 @@
+-- Laws and decision procedures about the definitions of `model`. Nobody has to believe any of it.
+-- Tools: tests, lists, decisions.
+pub mod Tests
+pub mod Each
+pub mod Find
+pub mod Places
+pub mod ListTests
+pub mod Upto
+pub mod Deciding
+-- Messages and tables: inverses, parts, substitutions; equal numbers are equal terms; the terms of a table are closed.
+pub mod Inverses
+pub mod Parts
+pub mod Within
+pub mod Substituting
+pub mod GoodTable
+pub mod Numbers
+pub mod OnSheet
+-- The least set that rules close, decided; and what is decided by it.
+pub mod Rules
+pub mod RowRules
+pub mod Locality
+pub mod Reach
+pub mod Carrying
+pub mod Occurring
+pub mod Precedence
+-- Skeletons: their events, origins, what is derivable before a reception, refusals 10 to 14.
+pub mod Happenings
+pub mod Skeletons
+pub mod Realizing
+pub mod Faults
+-- Strand maps: one substitution at most, the rules decided, the list.
+pub mod MapLaws
+pub mod Coherent
+pub mod Matching
+pub mod MapTests
+-- From bytes to a verdict: one outcome of reading, one verdict, and what an accepted sheet is.
+pub mod Records
+pub mod Standing
+pub mod Outcome
+pub mod Judgement
+pub mod Verdicts
+-- The questions: exactly one answer to each, and the agreement.
+pub mod NoSecond
+pub mod Answering
+pub mod Listing
+pub mod MapAnswers
+pub mod Asking
+pub mod Agreement
+pub mod Pinned
