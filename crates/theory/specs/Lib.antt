@@ -37,6 +37,7 @@ pub mod MapTests
 pub mod Records
 pub mod Standing
 pub mod Outcome
+pub mod Continued
 pub mod Judgement
 pub mod Verdicts
 -- The questions: exactly one answer to each, and the agreement.

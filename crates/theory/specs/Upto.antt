@@ -9,7 +9,12 @@ use lib.Dec.{eqb}
 use lib.ListN.{length, getD, length-append, List·getD-append, List·getD-eq-default}
 use lib.Seq.{getD-append-seam}
 use borrow.Author.Tests.{eqb-true, eqb-false}
-use Rattle.model.specs.Lists.{upto, some-of}
+use Rattle.model.specs.Lists.{upto, every, some-of}
+
+pub every-same : (n : ℕ) (p q : ℕ → Bool) → ((i : ℕ) → i < n → q i ≡ p i) → every n q ≡ every n p
+unfolding every
+every-same zero p q h = refl
+every-same (suc n) p q h = rw (every-same n p q (λ i l. h i (omega arith)), h n (omega arith))
 
 module _ {A : Type 0} where
   pub length-upto : (n : ℕ) (f : ℕ → A) → length (upto n f) ≡ n
