@@ -19,6 +19,7 @@ pub mod OnSheet
 pub mod Rules
 pub mod RowRules
 pub mod Locality
+pub mod Printed
 pub mod Reach
 pub mod Carrying
 pub mod Occurring
