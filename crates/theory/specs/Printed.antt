@@ -2,11 +2,21 @@
 use mathlib.Core.Path.{_≡_, refl, ap, sym as back}
 use mathlib.Core.Bool.{Bool, not}
 use mathlib.Core.Logic.{_↔_, _≢_, ⊎-elim}
-use mathlib.Core.List.{List, [], _∷_, List·Memᴰ, List·Memᴰ·head, List·Memᴰ·tail, List·Memᴰ·not-nil, List·Memᴰ·cases-cons, Memᴰ·cast}
+use mathlib.Core.List.{_++_, map, List·Memᴰ·eq-of-singleton, List·Memᴰ·append-cases, Memᴰ·append-left, Memᴰ·append-right, Memᴰ·map, Memᴰ·of-map, List, [], _∷_, List·Memᴰ, List·Memᴰ·head, List·Memᴰ·tail, List·Memᴰ·not-nil, List·Memᴰ·cases-cons, Memᴰ·cast}
 use Prim.Native.Nat.{ℕ}
 use lib.Dec.{T}
 use Rattle.model.specs.Term.{Atom, Term, tag, mesg, atom, pair, enc, hash, inv, atom-same}
 use Rattle.model.specs.Derive.{Derivable}
+use lib.ListN.{length}
+use Rattle.model.specs.Lists.{upto}
+use Rattle.model.specs.Table.{Row, term}
+use Rattle.model.specs.Skeleton.{recv, Node, Skeleton, At, means}
+use Rattle.model.specs.Events.{SentBefore, Withheld, DerivableBefore}
+use Rattle.theory.specs.Upto.{in-upto, below-upto}
+use Rattle.theory.specs.GoodTable.{Good}
+use Rattle.theory.specs.Locality.{derivable-mono}
+use Rattle.theory.specs.Reach.{NumberSent, NumberWithheld}
+use Rattle.theory.specs.Realizing.{OnTable, withheld, sent as sent-numbers, node-inside, sent-to, sent-from, withheld-to, withheld-from}
 use Rattle.theory.specs.ListTests.{keep, keeps, kept}
 use Rattle.theory.specs.Deciding.{says-yes}
 
@@ -308,3 +318,96 @@ least-derives (Derivable.make-hash d) = by-hash (least-derives d)
 -- THE PRINTED SYSTEM DERIVES THE LEAST SET
 pub derives-iff-least : (Tp : List Term) (Ta : List Atom) (t : Term) → Derives Tp Ta t ↔ Least Tp Ta t
 derives-iff-least Tp Ta t = (derives-least, least-derives)
+
+-- Before a reception
+
+-- "Definition 9.1 (Outbound predecessors)" and "Definition 9.2 (Avoidance Set)"; the paper's "UO atoms that originate" decides
+pub record Context (K : Skeleton Term) (n : Node) : Type 0 where
+  pub outpred : List Term
+  pub is-outpred : (t : Term) → List·Memᴰ t outpred ↔ SentBefore K n t
+  pub avoid : List Atom
+  pub is-avoid : (a : Atom) → List·Memᴰ a avoid ↔ Withheld K a
+
+-- "Definition 9.3 (Derivable Before)"
+pub before-iff-derives : {K : Skeleton Term} {n : Node} (c : Context K n) (t : Term)
+    → DerivableBefore K n t ↔ Derives (c .outpred) (c .avoid) t
+unfolding DerivableBefore
+before-iff-derives c t = (
+  λ d. least-derives (derivable-mono _ _ _ _ (λ u s. c .is-outpred u .1 s) (λ a w. c .is-avoid a .0 w) d),
+  λ d. derivable-mono _ _ _ _ (λ u s. c .is-outpred u .0 s) (λ a w. c .is-avoid a .1 w) (derives-least d),
+)
+
+-- the atoms of a list
+atom-in : Term → List Atom
+atom-in (tag n) = []
+atom-in (mesg n) = []
+atom-in (atom a) = a ∷ []
+atom-in (pair t u) = []
+atom-in (enc t k) = []
+atom-in (hash t) = []
+
+atoms-in : List Term → List Atom
+atoms-in [] = []
+atoms-in (t ∷ l) = atom-in t ++ atoms-in l
+
+is-atom-in : (t : Term) {a : Atom} → List·Memᴰ a (atom-in t) → atom a ≡ t
+unfolding atom-in
+is-atom-in (tag n) m = absurd (List·Memᴰ·not-nil m)
+is-atom-in (mesg n) m = absurd (List·Memᴰ·not-nil m)
+is-atom-in (atom b) m = ap atom (List·Memᴰ·eq-of-singleton m)
+is-atom-in (pair t u) m = absurd (List·Memᴰ·not-nil m)
+is-atom-in (enc t k) m = absurd (List·Memᴰ·not-nil m)
+is-atom-in (hash t) m = absurd (List·Memᴰ·not-nil m)
+
+atoms-in-iff : (l : List Term) (a : Atom) → List·Memᴰ a (atoms-in l) ↔ List·Memᴰ (atom a) l
+unfolding atoms-in atom-in
+atoms-in-iff [] a = (λ m. absurd (List·Memᴰ·not-nil m), λ m. absurd (List·Memᴰ·not-nil m))
+atoms-in-iff (t ∷ l) a = (
+  λ m. ⊎-elim (λ k. List·Memᴰ·head (is-atom-in t k)) (λ k. List·Memᴰ·tail (atoms-in-iff l a .0 k))
+      (List·Memᴰ·append-cases (atom-in t) m),
+  λ m. ⊎-elim (λ e. Memᴰ·append-left {s = atom-in t} (atoms-in l) (rw (← e) (List·Memᴰ·head refl)))
+      (λ k. Memᴰ·append-right (atom-in t) (atoms-in-iff l a .1 k)) (List·Memᴰ·cases-cons m),
+)
+
+-- each reception of a skeleton on a good table has them
+module _ (rows : List Row) (good : Good rows) (K : Skeleton ℕ) (ok : OnTable rows K) (n : Node) (u : ℕ) (at : At K n (recv u))
+  where
+    numbers : List ℕ
+    numbers = keep (withheld rows K) (upto (length rows) (λ i. i))
+
+    withheld-terms : List Term
+    withheld-terms = map (term rows) numbers
+
+    withheld-iff : (a : Atom) → List·Memᴰ (atom a) withheld-terms ↔ NumberWithheld rows (withheld rows K) a
+    unfolding withheld-terms numbers
+    withheld-iff a = (
+      λ m.
+          let (i, k, e) = Memᴰ·of-map (term rows) numbers m in
+          let (l, h) = kept (withheld rows K) (upto (length rows) (λ i. i)) i k in
+          record { which = i; inside = below-upto (length rows) i l; held = h; means = e },
+      λ w. Memᴰ·cast (back (w .means)) (Memᴰ·map (term rows) (keeps (withheld rows K) (upto (length rows) (λ i. i))
+          (in-upto (length rows) (w .which) (w .inside)) (w .held))),
+    )
+
+    sent-iff : (t : Term) → List·Memᴰ t (map (term rows) (sent-numbers rows K n)) ↔ NumberSent rows (sent-numbers rows K n) t
+    sent-iff t = (
+      λ m. let (i, k, e) = Memᴰ·of-map (term rows) (sent-numbers rows K n) m in record { which = i; listed = k; means = e },
+      λ s. Memᴰ·cast (back (s .means)) (Memᴰ·map (term rows) (s .listed)),
+    )
+
+    pub context : Context (means (term rows) K) n
+    context =
+        let low = ok .positions n (recv u) at in
+        let inside = node-inside rows good K ok at in
+        record {
+          outpred = map (term rows) (sent-numbers rows K n);
+          is-outpred = λ t. (
+            λ m. sent-from rows good K ok n low inside u at t (sent-iff t .0 m),
+            λ s. sent-iff t .1 (sent-to rows good K ok n low inside u at t s),
+          );
+          avoid = atoms-in withheld-terms;
+          is-avoid = λ a. (
+            λ m. withheld-from rows good K ok a (withheld-iff a .0 (atoms-in-iff withheld-terms a .0 m)),
+            λ w. atoms-in-iff withheld-terms a .1 (withheld-iff a .1 (withheld-to rows good K ok a w)),
+          );
+        }
