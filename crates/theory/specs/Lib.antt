@@ -28,6 +28,7 @@ pub mod Precedence
 pub mod Happenings
 pub mod Skeletons
 pub mod Realizing
+pub mod Appearing
 pub mod Faults
 -- Strand maps: one substitution at most, the rules decided, the list.
 pub mod MapLaws
@@ -46,6 +47,7 @@ pub mod NoSecond
 pub mod Answering
 pub mod Listing
 pub mod MapAnswers
+pub mod TheSubstitution
 pub mod Asking
 pub mod Agreement
 pub mod Pinned
