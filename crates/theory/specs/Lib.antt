@@ -19,6 +19,7 @@ pub mod OnSheet
 pub mod Rules
 pub mod RowRules
 pub mod Locality
+pub mod Printed
 pub mod Reach
 pub mod Carrying
 pub mod Occurring
@@ -27,6 +28,7 @@ pub mod Precedence
 pub mod Happenings
 pub mod Skeletons
 pub mod Realizing
+pub mod Appearing
 pub mod Faults
 -- Strand maps: one substitution at most, the rules decided, the list.
 pub mod MapLaws
@@ -37,6 +39,7 @@ pub mod MapTests
 pub mod Records
 pub mod Standing
 pub mod Outcome
+pub mod Continued
 pub mod Judgement
 pub mod Verdicts
 -- The questions: exactly one answer to each, and the agreement.
@@ -44,6 +47,7 @@ pub mod NoSecond
 pub mod Answering
 pub mod Listing
 pub mod MapAnswers
+pub mod TheSubstitution
 pub mod Asking
 pub mod Agreement
 pub mod Pinned

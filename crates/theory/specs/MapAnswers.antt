@@ -137,7 +137,7 @@ module _ (rows : List Row) (good : Good rows) (A B : Skeleton ℕ) (okA : OnTabl
     f s = getD bytes s 0
 
     -- a source variable's image is on the sheet
-    image-on : (σ : Subst) → Rule2 A′ B′ f → Rule3 A′ B′ f σ → (x : Term) → SourceVariable A′ x → OnSheet rows (apply σ x)
+    pub image-on : (σ : Subst) → Rule2 A′ B′ f → Rule3 A′ B′ f σ → (x : Term) → SourceVariable A′ x → OnSheet rows (apply σ x)
     unfolding Rule2 Rule3
     image-on σ r₂ r₃ x v =
         let g = v .occurs in

@@ -192,7 +192,7 @@ module _ (k : ℕ) (s : Sheet) where
 -- Maps
 
 module _ (A B : Skeleton Term) (bytes : List ℕ) where
-  kept-less : (j k : ℕ) → j ≤ k → {σ : Subst} → Kept A B bytes k σ → Kept A B bytes j σ
+  pub kept-less : (j k : ℕ) → j ≤ k → {σ : Subst} → Kept A B bytes k σ → Kept A B bytes j σ
   kept-less j k l h =
       record {
         strands = λ x. h .strands (omega arith);

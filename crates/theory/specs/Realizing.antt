@@ -217,7 +217,7 @@ module _ (rows : List Row) (good : Good rows) (K : Skeleton ℕ) (ok : OnTable r
         → T (marked (reach (to-rules (edges K) n) (length (K .strands) * 16)) (code m)) ↔ Leads (edges K) m n
     before-iff m h = leads-decided (edges K) (ok .low) n n-low (length (K .strands) * 16) (λ e k. ok .nodes e k .0) n-inside m h
 
-    sent-to : (t : Term) → SentBefore L n t → NumberSent rows (sent rows K n) t
+    pub sent-to : (t : Term) → SentBefore L n t → NumberSent rows (sent rows K n) t
     unfolding sent sent-before is-send message
     sent-to t s =
         let m = s .sender in
@@ -242,7 +242,7 @@ module _ (rows : List Row) (good : Good rows) (K : Skeleton ℕ) (ok : OnTable r
         let z : _≡_ {A = ℕ} 0 1 = cc in
         omega arith
 
-    sent-from : (t : Term) → NumberSent rows (sent rows K n) t → SentBefore L n t
+    pub sent-from : (t : Term) → NumberSent rows (sent rows K n) t → SentBefore L n t
     unfolding sent sent-before
     sent-from t s =
         let (x, m, e) = Memᴰ·of-map (λ x. message (x .1)) (keep (sent-before rows K n) (events K)) (s .listed) in
@@ -279,7 +279,7 @@ module _ (rows : List Row) (good : Good rows) (K : Skeleton ℕ) (ok : OnTable r
     unfolding withheld
     withheld-cases h = ⊎-map (λ k. k) (both is-uniq (originates rows K i)) (or-cases is-non (is-uniq && originates rows K i) h)
 
-  withheld-to : (a : Atom) → Withheld L a → NumberWithheld rows (withheld rows K) a
+  pub withheld-to : (a : Atom) → Withheld L a → NumberWithheld rows (withheld rows K) a
   unfolding Withheld means
   withheld-to a (inl m) =
       let (i, l, e) = Memᴰ·of-map (term rows) (K .non) m in
@@ -289,7 +289,7 @@ module _ (rows : List Row) (good : Good rows) (K : Skeleton ℕ) (ok : OnTable r
       let h = ok .uniqs i l in
       record { which = i; inside = h; held = withheld-uniq i l (origin-to i h (g .node) (rw (← e) at (g .origin))); means = e }
 
-  withheld-from : (a : Atom) → NumberWithheld rows (withheld rows K) a → Withheld L a
+  pub withheld-from : (a : Atom) → NumberWithheld rows (withheld rows K) a → Withheld L a
   unfolding Withheld means
   withheld-from a w =
       let i = w .which in

@@ -2,14 +2,21 @@
 use Prim.Native.Nat.{ℕ, zero, suc, _+_, _≤_, _<_}
 use mathlib.Core.Path.{_≡_, refl, sym, ap, _∙_}
 use mathlib.Core.Bool.{Bool, true, false, _||_, or-true}
-use mathlib.Core.List.{List, [], _∷_, _++_}
+use mathlib.Core.Logic.{⊎-elim}
+use mathlib.Core.List.{List, [], _∷_, _++_, List·Memᴰ, List·Memᴰ·head, List·Memᴰ·not-nil, List·Memᴰ·eq-of-singleton, List·Memᴰ·append-cases, Memᴰ·append-left, Memᴰ·append-right}
 use native.Mathlib.Numerals.{add-one}
 use native.Mathlib.Omega.{arith}
+use native.Mathlib.Decide.{decLt}
 use lib.Dec.{eqb}
 use lib.ListN.{length, getD, length-append, List·getD-append, List·getD-eq-default}
 use lib.Seq.{getD-append-seam}
 use borrow.Author.Tests.{eqb-true, eqb-false}
-use Rattle.model.specs.Lists.{upto, some-of}
+use Rattle.model.specs.Lists.{upto, every, some-of}
+
+pub every-same : (n : ℕ) (p q : ℕ → Bool) → ((i : ℕ) → i < n → q i ≡ p i) → every n q ≡ every n p
+unfolding every
+every-same zero p q h = refl
+every-same (suc n) p q h = rw (every-same n p q (λ i l. h i (omega arith)), h n (omega arith))
 
 module _ {A : Type 0} where
   pub length-upto : (n : ℕ) (f : ℕ → A) → length (upto n f) ≡ n
@@ -85,3 +92,20 @@ module _ {A : Type 0} where
 
   pub none-at : (p : A → Bool) (f : ℕ → A) (n i : ℕ) → i ≡ n → some-of p (upto i f) ≡ false → false ≡ some-of p (upto n f)
   none-at p f n i e h = rw (← e) (sym h)
+
+-- the numbers below n
+pub in-upto : (n i : ℕ) → i < n → List·Memᴰ i (upto n (λ i. i))
+unfolding upto
+in-upto zero i h = absurd (omega arith)
+in-upto (suc n) i h = go (decLt i n) (in-upto n i)
+  where
+    go : Dec (i < n) → (i < n → List·Memᴰ i (upto n (λ i. i))) → List·Memᴰ i (upto n (λ i. i) ++ (n ∷ []))
+    go (yes l) f = Memᴰ·append-left (n ∷ []) (f l)
+    go (no l) f = Memᴰ·append-right (upto n (λ i. i)) (List·Memᴰ·head (omega arith))
+
+pub below-upto : (n i : ℕ) → List·Memᴰ i (upto n (λ i. i)) → i < n
+unfolding upto
+below-upto zero i m = absurd (List·Memᴰ·not-nil m)
+below-upto (suc n) i m =
+    ⊎-elim (λ k. omega (arith, below-upto n i k)) (λ k. let e = List·Memᴰ·eq-of-singleton k in omega arith)
+    (List·Memᴰ·append-cases (upto n (λ i. i)) m)

@@ -1,0 +1,5 @@
+-- P1 to P12 of the paper, bad sheets and the limits, for the definitions themselves.
+pub mod Hex
+pub mod Cases
+pub mod Refusals
+pub mod Limits

@@ -1,0 +1,1 @@
+// The paper's cases, for the definitions themselves. They stand in specs/; there is no code.
