@@ -1,0 +1,179 @@
+-- What a matrix of precedence says of the skeleton whose block begins at b of the table t. Assumes nothing.
+use mathlib.Core.Path.{_≡_, sym, _∙_, ap}
+use mathlib.Core.Bool.{true, true≢false}
+use mathlib.Core.List.{List, [], List·Memᴰ}
+use mathlib.Core.Logic.{_↔_, _⊎_, ⊎-elim, ⊎-map, inl, inr}
+use Prim.Native.Nat.{ℕ, suc, _+_, _*_, _/_, _%_, _<_, _≤_}
+use native.Mathlib.Omega.{arith}
+use native.Mathlib.Decide.{decLt}
+use lib.ListN.{length}
+use Rattle.model.specs.Skeleton.{Node, Skeleton, height}
+use Rattle.model.specs.Events.{Before, next, listed, chain}
+use Rattle.tables.specs.Layout.{strand-count, order-count, heights, orders}
+use Rattle.tables.specs.Tables.{byte, node-at, trace-at, strands-at, orders-at, skeleton-at, Block}
+use Rattle.order.specs.Precedence.{on, code, Low, Shows, Ordered}
+use Rattle.order.specs.Matrix.{EmptyFrom, Adds, Way, step, then, Closed, Looped}
+use Rattle.order.specs.Steps.{Along, Among}
+use Rattle.order.proofs.Listing.{OneOf, length-upto, upto-at, upto-out, upto-has, upto-only}
+
+-- the node of a number
+abbrev node : ℕ → Node
+node a = record { strand = a / 16; position = a % 16 }
+
+pub low-code : (x : Node) → Low x → code x < 96
+low-code x l = omega (arith, l .strand, l .position)
+
+node-code : (x : Node) → Low x → node (code x) ≡ x
+node-code x l =
+    let s : (16 * x .strand + x .position) / 16 ≡ x .strand = omega (arith, l .position) in
+    let p : (16 * x .strand + x .position) % 16 ≡ x .position = omega (arith, l .position) in
+    rw (s, p)
+
+-- some node comes before itself
+pub record Cycle {M : Type 0} (K : Skeleton M) : Type 0 where
+  pub node : Node
+  pub cycle : Before K node node
+
+-- precedence relates only nodes that a matrix has rows for
+pub record AllLow {M : Type 0} (K : Skeleton M) : Type 0 where
+  pub at : (x y : Node) → Before K x y → Low x × Low y
+
+-- a matrix says whether there is a cycle
+pub cycle-looped : {M : Type 0} {K : Skeleton M} {m : List ℕ} → Shows K m → AllLow K → Looped m ↔ Cycle K
+cycle-looped {M} {K} {m} shows low = (there, back)
+  where
+    there : Looped m → Cycle K
+    there l =
+        let a = l .node in
+        let h : Low (node a) = record { strand = omega (arith, l .row); position = omega arith } in
+        let e : code (node a) ≡ a = omega arith in
+        record { node = node a; cycle = shows .at (node a) (node a) h h .0 (rw e (l .own)) }
+
+    back : Cycle K → Looped m
+    back c =
+        let h = low .at (c .node) (c .node) (c .cycle) .0 in
+        record { node = code (c .node); row = low-code (c .node) h; own = shows .at (c .node) (c .node) h h .1 (c .cycle) }
+
+module _ (t : List ℕ) (b : ℕ) where
+  height-at : (s : ℕ) → s < byte t (b + strand-count) → height (skeleton-at t b) s ≡ byte t (b + heights + s)
+  unfolding skeleton-at strands-at trace-at
+  height-at s l =
+      ap length (upto-at (byte t (b + strand-count)) (trace-at t b) [] s l) ∙ length-upto (byte t (b + heights + s)) _
+
+  height-out : (s : ℕ) → byte t (b + strand-count) ≤ s → height (skeleton-at t b) s ≡ 0
+  unfolding skeleton-at strands-at
+  height-out s l = ap length (upto-out (byte t (b + strand-count)) (trace-at t b) [] s l)
+
+  -- the OR pair at a place
+  abbrev pair-at : ℕ → Node × Node
+  pair-at i = (node-at t (b + orders + 4 * i), node-at t (b + orders + 4 * i + 2))
+
+  pair-in : (i : ℕ) → i < byte t (b + order-count) → List·Memᴰ (pair-at i) (skeleton-at t b .order)
+  unfolding skeleton-at orders-at
+  pair-in i l = upto-has (byte t (b + order-count)) pair-at i l
+
+  pair-of : {x y : Node} → List·Memᴰ (x, y) (skeleton-at t b .order) → OneOf (byte t (b + order-count)) pair-at (x, y)
+  unfolding skeleton-at orders-at
+  pair-of q = upto-only (byte t (b + order-count)) pair-at q
+
+  module _ (block : Block t b) where
+    -- strand succession, in the skeleton and in its block
+    record Next (s p : ℕ) : Type 0 where
+      strand : s < byte t (b + strand-count)
+      below : suc p < byte t (b + heights + s)
+      short : byte t (b + heights + s) ≤ 16
+
+    next-of : (s p : ℕ) → suc p < height (skeleton-at t b) s → Next s p
+    next-of s p l =
+        elim (decLt s (byte t (b + strand-count))) [
+          | yes h ↦ record { strand = h; below = rw (height-at s h) at l; short = block .low s h }
+          | no h ↦ let e = height-out s (omega arith) in absurd (omega arith)
+        ]
+
+    module _ (ordered : Ordered t b) where
+      low : {x y : Node} → Before (skeleton-at t b) x y → Low x × Low y
+      low (next {s} {p} l) =
+          let n = next-of s p l in
+          let h = block .strands in (
+            record { strand = omega (arith, n .strand); position = omega (arith, n .below, n .short) },
+            record { strand = omega (arith, n .strand); position = omega (arith, n .below, n .short) },
+          )
+      low (listed q) =
+          let o = pair-of q in (
+            rw (ap (λ (w : Node × Node). w .0) (o .is)) (ordered .first (o .index) (o .below)),
+            rw (ap (λ (w : Node × Node). w .1) (o .is)) (ordered .second (o .index) (o .below)),
+          )
+      low (chain p q) = (low p .0, low q .1)
+
+      pub before-low : AllLow (skeleton-at t b)
+      before-low = record { at = λ x y p. low p }
+
+      along-before : (x y : ℕ) → Along t b x y → Before (skeleton-at t b) (node x) (node y)
+      along-before x y w =
+          let short = block .low (x / 16) (w .strand) in
+          let s : y / 16 ≡ x / 16 = omega (arith, w .next, w .below) in
+          let p : y % 16 ≡ suc (x % 16) = omega (arith, w .next, w .below) in
+          rw (s, p) (next {s = x / 16} {p = x % 16} (rw (height-at (x / 16) (w .strand)) (omega (arith, w .below))))
+
+      among-before : (x y : ℕ) → Among t b x y → Before (skeleton-at t b) (node x) (node y)
+      among-before x y w =
+          let first = node-code _ (ordered .first (w .index) (w .below)) in
+          let second = node-code _ (ordered .second (w .index) (w .below)) in
+          rw (← w .starts, ← w .ends, first, second) (listed (pair-in (w .index) (w .below)))
+
+      next-along : (s p : ℕ) → Next s p → Along t b (16 * s + p) (16 * s + suc p)
+      next-along s p n =
+          let strand : (16 * s + p) / 16 ≡ s = omega (arith, n .below, n .short) in
+          let position : (16 * s + p) % 16 ≡ p = omega (arith, n .below, n .short) in
+          record { next = omega arith; strand = rw strand (n .strand); below = rw (strand, position) (omega (arith, n .below)) }
+
+      listed-among : {x y : Node} → List·Memᴰ (x, y) (skeleton-at t b .order) → Among t b (code x) (code y)
+      listed-among q =
+          let o = pair-of q in
+          record {
+            index = o .index;
+            below = o .below;
+            starts = ap (λ (w : Node × Node). code (w .0)) (sym (o .is));
+            ends = ap (λ (w : Node × Node). code (w .1)) (sym (o .is));
+          }
+
+      module _ {g : List ℕ} (steps : (x y : ℕ) → x < 96 → y < 96 → (on g x y ≡ true) ↔ (Along t b x y ⊎ Among t b x y)) where
+        one-step : (x y : Node) → Low x × Low y → Along t b (code x) (code y) ⊎ Among t b (code x) (code y)
+            → Way g (code x) (code y)
+        one-step x y l w =
+            let hx = low-code x (l .0) in
+            let hy = low-code y (l .1) in step hx hy (steps (code x) (code y) hx hy .1 w)
+
+        way : {x y : Node} → Before (skeleton-at t b) x y → Way g (code x) (code y)
+        way (next {s} {p} l) = one-step _ _ (low (next l)) (inl (next-along s p (next-of s p l)))
+        way (listed q) = one-step _ _ (low (listed q)) (inr (listed-among q))
+        way (chain p q) = then (way p) (way q)
+
+        before : {x y : ℕ} → Way g x y → Before (skeleton-at t b) (node x) (node y)
+        before (step hx hy e) = ⊎-elim (along-before _ _) (among-before _ _) (steps _ _ hx hy .0 e)
+        before (then p q) = chain (before p) (before q)
+
+        closed-shows : {m : List ℕ} → Closed g m → Shows (skeleton-at t b) m
+        closed-shows c =
+            record {
+              at = λ x y lx ly. let both = c .at (code x) (code y) (low-code x lx) (low-code y ly) in
+                  (λ e. rw (node-code x lx, node-code y ly) at (before (both .0 e)), λ p. both .1 (way p));
+            }
+
+      -- the closure of succession and the OR pairs, added to nothing
+      pub before-shown : {z s g m : List ℕ} → EmptyFrom 0 z → Adds (Along t b) z s → Adds (Among t b) s g → Closed g m
+          → Shows (skeleton-at t b) m
+      before-shown {z} {s} {g} none along among closed = closed-shows steps closed
+        where
+          strands : (x y : ℕ) → x < 96 → y < 96 → (on s x y ≡ true) → Along t b x y
+          strands x y hx hy e =
+              ⊎-elim
+              (λ o. absurd (true≢false (sym o ∙ none .row x (omega arith) hx .off y hy)))
+              (λ w. w)
+              (along .at x y hx hy .0 e)
+
+          steps : (x y : ℕ) → x < 96 → y < 96 → (on g x y ≡ true) ↔ (Along t b x y ⊎ Among t b x y)
+          steps x y hx hy = (
+            λ e. ⊎-map (strands x y hx hy) (λ w. w) (among .at x y hx hy .0 e),
+            λ w. among .at x y hx hy .1 (⊎-map (λ a. along .at x y hx hy .1 (inr a)) (λ q. q) w),
+          )
