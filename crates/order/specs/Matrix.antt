@@ -1,4 +1,5 @@
--- What becomes of a matrix: a pair or a row stored, a relation added, the ways through a node added, closed. What may be in one.
+-- What becomes of a matrix: a pair or a row stored, a relation added, the ways through a node added, closed. What may
+-- be in one.
 use mathlib.Core.Path.{_≡_}
 use mathlib.Core.Bool.{true, false, _&&_, _||_}
 use mathlib.Core.List.{List}

@@ -1,5 +1,5 @@
--- Precedence as a matrix of bits. Node 16 * s + p is position p of strand s; row a has the words 2 * a and 2 * a + 1, and b is bit
--- b % 64 of the word b / 64 of its row.
+-- Precedence as a matrix of bits. Node 16 * s + p is position p of strand s; row a has the words 2 * a and 2 * a + 1,
+-- and b is bit b % 64 of the word b / 64 of its row.
 use mathlib.Core.Path.{_≡_}
 use mathlib.Core.Bool.{Bool, true}
 use mathlib.Core.List.{List}
@@ -9,7 +9,7 @@ use lib.ListN.{getD}
 use Rattle.terms.specs.Set.{bit}
 use Rattle.model.specs.Skeleton.{Node, Skeleton}
 use Rattle.model.specs.Events.{Before}
-use Rattle.tables.specs.Layout.{strand-count, order-count, orders}
+use Rattle.tables.specs.Layout.{order-count, orders}
 use Rattle.tables.specs.Tables.{byte, node-at}
 
 -- whether b is in row a
