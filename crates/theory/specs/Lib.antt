@@ -37,6 +37,7 @@ pub mod Matching
 pub mod MapTests
 -- From bytes to a verdict: one outcome of reading, one verdict, and what an accepted sheet is.
 pub mod Records
+pub mod RecordBytes
 pub mod Standing
 pub mod Outcome
 pub mod Continued
