@@ -40,6 +40,7 @@ pub mod Records
 pub mod RecordBytes
 pub mod Standing
 pub mod Outcome
+pub mod Encoding
 pub mod Continued
 pub mod Judgement
 pub mod Verdicts
