@@ -37,8 +37,10 @@ pub mod Matching
 pub mod MapTests
 -- From bytes to a verdict: one outcome of reading, one verdict, and what an accepted sheet is.
 pub mod Records
+pub mod RecordBytes
 pub mod Standing
 pub mod Outcome
+pub mod Encoding
 pub mod Continued
 pub mod Judgement
 pub mod Verdicts

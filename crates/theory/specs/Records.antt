@@ -82,29 +82,29 @@ pub record Allowed (s : State) (r : Record) : Type 0 where
 
 -- A record that was read
 
-record Passed (b : Bool) (x : Said) (r : Record) : Type 0 where
-  test : T b
-  then : x ≡ says r
+pub record Passed (b : Bool) (x : Said) (r : Record) : Type 0 where
+  pub test : T b
+  pub then : x ≡ says r
 
-passed : (b : Bool) (n : ℕ) (x : Said) {r : Record} → check b n x ≡ says r → Passed b x r
+pub passed : (b : Bool) (n : ℕ) (x : Said) {r : Record} → check b n x ≡ says r → Passed b x r
 unfolding check
 passed true n x e = record { test = tt; then = e }
 passed false n x e = let z : _≡_ {A = ℕ} 0 1 = cc in absurd (omega arith)
 
-record Given {A : Type 0} (o : Option A) (f : A → Said) (r : Record) : Type 0 where
-  what : A
-  is : o ≡ some what
-  then : f what ≡ says r
+pub record Given {A : Type 0} (o : Option A) (f : A → Said) (r : Record) : Type 0 where
+  pub what : A
+  pub is : o ≡ some what
+  pub then : f what ≡ says r
 
-given : {A : Type 0} (o : Option A) (n : ℕ) (f : A → Said) {r : Record} → need o n f ≡ says r → Given o f r
+pub given : {A : Type 0} (o : Option A) (n : ℕ) (f : A → Said) {r : Record} → need o n f ≡ says r → Given o f r
 unfolding need
 given (some a) n f e = record { what = a; is = refl; then = e }
 given none n f e = let z : _≡_ {A = ℕ} 0 1 = cc in absurd (omega arith)
 
-record Told (m : Mark) (s : State) (rest : List ℕ) (r : Record) : Type 0 where
-  mark : mark-of r ≡ m
-  right : Right s r
-  whole : size r ≤ length rest
+pub record Told (m : Mark) (s : State) (rest : List ℕ) (r : Record) : Type 0 where
+  pub mark : mark-of r ≡ m
+  pub right : Right s r
+  pub whole : size r ≤ length rest
 
 told : {m : Mark} {s : State} {rest : List ℕ} {q r : Record} → says q ≡ says r → Told m s rest q → Told m s rest r
 told {q} {r} e h = let x : q ≡ r = cc in rw x at h
@@ -222,7 +222,7 @@ told-atom most says-of rows there rest {r} e =
           (q .test);
     }
 
-told-as : (m : Mark) (s : State) (rest : List ℕ) {r : Record} → 2 ≤ length rest → read-as m s rest ≡ says r → Told m s rest r
+pub told-as : (m : Mark) (s : State) (rest : List ℕ) {r : Record} → 2 ≤ length rest → read-as m s rest ≡ says r → Told m s rest r
 unfolding read-as Right mark-of size
 told-as BS s rest h e = told-BS s rest e
 told-as TM s rest h e = told-TM s rest e

@@ -131,53 +131,53 @@ rank (some UO) = 7
 rank (some EN) = 8
 
 -- what a mark that may come next says of it
-may-BS : (l : Option Mark) → T (may l BS) → rank l ≤ 0
+pub may-BS : (l : Option Mark) → T (may l BS) → rank l ≤ 0
 unfolding may rank
 may-BS none t = omega arith
 may-BS (some BS) t = absurd t
 
-may-TM : (l : Option Mark) → T (may l TM) → rank l ≤ 2
+pub record Between (a b n : ℕ) : Type 0 where
+  pub from : a ≤ n
+  pub to : n ≤ b
+
+pub may-TM : (l : Option Mark) → T (may l TM) → Between 1 2 (rank l)
 unfolding may rank
-may-TM (some BS) t = omega arith
-may-TM (some TM) t = omega arith
+may-TM (some BS) t = record { from = omega arith; to = omega arith }
+may-TM (some TM) t = record { from = omega arith; to = omega arith }
 
-may-SK : (l : Option Mark) → T (may l SK) → (rank l ≤ 2) ⊎ (4 ≤ rank l)
+pub may-SK : (l : Option Mark) → T (may l SK) → Between 1 2 (rank l) ⊎ Between 4 7 (rank l)
 unfolding may rank
-may-SK (some BS) t = inl (omega arith)
-may-SK (some TM) t = inl (omega arith)
-may-SK (some ST) t = inr (omega arith)
-may-SK (some OR) t = inr (omega arith)
-may-SK (some NO) t = inr (omega arith)
-may-SK (some UO) t = inr (omega arith)
+may-SK (some BS) t = inl (record { from = omega arith; to = omega arith })
+may-SK (some TM) t = inl (record { from = omega arith; to = omega arith })
+may-SK (some ST) t = inr (record { from = omega arith; to = omega arith })
+may-SK (some OR) t = inr (record { from = omega arith; to = omega arith })
+may-SK (some NO) t = inr (record { from = omega arith; to = omega arith })
+may-SK (some UO) t = inr (record { from = omega arith; to = omega arith })
 
-record Between (a b n : ℕ) : Type 0 where
-  from : a ≤ n
-  to : n ≤ b
-
-may-ST : (l : Option Mark) → T (may l ST) → Between 3 4 (rank l)
+pub may-ST : (l : Option Mark) → T (may l ST) → Between 3 4 (rank l)
 unfolding may rank
 may-ST (some SK) t = record { from = omega arith; to = omega arith }
 may-ST (some ST) t = record { from = omega arith; to = omega arith }
 
-may-OR : (l : Option Mark) → T (may l OR) → Between 4 5 (rank l)
+pub may-OR : (l : Option Mark) → T (may l OR) → Between 4 5 (rank l)
 unfolding may rank
 may-OR (some ST) t = record { from = omega arith; to = omega arith }
 may-OR (some OR) t = record { from = omega arith; to = omega arith }
 
-may-NO : (l : Option Mark) → T (may l NO) → Between 4 6 (rank l)
+pub may-NO : (l : Option Mark) → T (may l NO) → Between 4 6 (rank l)
 unfolding may rank
 may-NO (some ST) t = record { from = omega arith; to = omega arith }
 may-NO (some OR) t = record { from = omega arith; to = omega arith }
 may-NO (some NO) t = record { from = omega arith; to = omega arith }
 
-may-UO : (l : Option Mark) → T (may l UO) → Between 4 7 (rank l)
+pub may-UO : (l : Option Mark) → T (may l UO) → Between 4 7 (rank l)
 unfolding may rank
 may-UO (some ST) t = record { from = omega arith; to = omega arith }
 may-UO (some OR) t = record { from = omega arith; to = omega arith }
 may-UO (some NO) t = record { from = omega arith; to = omega arith }
 may-UO (some UO) t = record { from = omega arith; to = omega arith }
 
-may-EN : (l : Option Mark) → T (may l EN) → Between 4 7 (rank l)
+pub may-EN : (l : Option Mark) → T (may l EN) → Between 4 7 (rank l)
 unfolding may rank
 may-EN (some ST) t = record { from = omega arith; to = omega arith }
 may-EN (some OR) t = record { from = omega arith; to = omega arith }
@@ -322,13 +322,13 @@ module _ (s : State) (kept : Kept s) where
   unfolding after rank mark-of Right
   kept-term r a =
       let k = may-TM (s .last) (a .next) in
-      undrawn TM (s .rows ++ (r ∷ [])) (omega arith) (λ h. absurd (omega arith)) (o .no-drawing k)
+      undrawn TM (s .rows ++ (r ∷ [])) (omega arith) (λ h. absurd (omega arith)) (o .no-drawing (k .to))
       (fair-more (s .rows) r (kept .table) (a .right))
 
   -- all skeletons so far have a strand, where another may begin
-  all-begun : (rank (s .last) ≤ 2) ⊎ (4 ≤ rank (s .last)) → Each HasStrand (s .drawn)
-  all-begun (inl h) = rw (o .no-drawing h) (each-nil _)
-  all-begun (inr h) = rw (o .begun (omega arith)) (each-cons _ (o .a-strand h) (o .others))
+  all-begun : Between 1 2 (rank (s .last)) ⊎ Between 4 7 (rank (s .last)) → Each HasStrand (s .drawn)
+  all-begun (inl h) = rw (o .no-drawing (h .to)) (each-nil _)
+  all-begun (inr h) = rw (o .begun (omega (arith, h .from))) (each-cons _ (o .a-strand (h .from)) (o .others))
 
   kept-begin : Allowed s begin → Kept (after s begin)
   unfolding after rank mark-of Right in-work blank
