@@ -1,0 +1,3 @@
+-- What the contracts of `carry` cite.
+pub mod Sets
+pub mod Next
