@@ -1,0 +1,3 @@
+-- What the contracts of `keys` cite.
+pub mod Inverted
+pub mod Partners
