@@ -41,6 +41,7 @@ pub mod RecordBytes
 pub mod Standing
 pub mod Outcome
 pub mod Encoding
+pub mod Lengths
 pub mod Continued
 pub mod Judgement
 pub mod Verdicts
