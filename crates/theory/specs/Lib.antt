@@ -42,6 +42,7 @@ pub mod Standing
 pub mod Outcome
 pub mod Encoding
 pub mod Lengths
+pub mod Readable
 pub mod Continued
 pub mod Judgement
 pub mod Verdicts
