@@ -53,11 +53,11 @@ pub record WithinLimits (s : Sheet) : Type 0 where
 
 -- The records that are read so far
 
-heading : Option Mark → List Record
+unfoldable pub heading : Option Mark → List Record
 heading none = []
 heading (some m) = edition ∷ []
 
-closing : Option Mark → List Record
+unfoldable pub closing : Option Mark → List Record
 closing none = []
 closing (some BS) = []
 closing (some TM) = []
@@ -68,7 +68,7 @@ closing (some NO) = []
 closing (some UO) = []
 closing (some EN) = end ∷ []
 
-unfoldable so-far : State → List Record
+unfoldable pub so-far : State → List Record
 so-far s = heading (s .last) ++ (map term (s .rows) ++ (all-skeletons (reversed (s .drawn)) ++ closing (s .last)))
 
 no-heading : (l : Option Mark) → rank l ≤ 0 → heading l ≡ []
@@ -238,7 +238,7 @@ module _ (s : State) (kept : Kept s) where
       rw (under-way (omega (arith, k .from)) (k .to)) (ap (λ l. edition ∷ l)
       (back (append-assoc M (all-skeletons (reversed (s .drawn))) (end ∷ []))))
 
-  one-more : (r : Record) → Allowed s r → so-far (after s r) ≡ so-far s ++ (r ∷ [])
+  pub one-more : (r : Record) → Allowed s r → so-far (after s r) ≡ so-far s ++ (r ∷ [])
   one-more edition a = more-edition a
   one-more (term r) a = more-term r a
   one-more begin a = more-begin a
@@ -250,12 +250,12 @@ module _ (s : State) (kept : Kept s) where
 
 -- A sheet that was read stands there in its encoding, within the limits
 
-encode-append : (l m : List Record) → encode-all (l ++ m) ≡ encode-all l ++ encode-all m
+pub encode-append : (l m : List Record) → encode-all (l ++ m) ≡ encode-all l ++ encode-all m
 unfolding encode-all
 encode-append [] m = refl
 encode-append (r ∷ l) m = ap (λ k. encode r ++ k) (encode-append l m) ∙ back (append-assoc (encode r) _ _)
 
-encode-one : (l : List Record) (r : Record) → encode-all (l ++ (r ∷ [])) ≡ encode-all l ++ encode r
+pub encode-one : (l : List Record) (r : Record) → encode-all (l ++ (r ∷ [])) ≡ encode-all l ++ encode r
 unfolding encode-all
 encode-one l r = encode-append l (r ∷ []) ∙ ap (λ k. encode-all l ++ k) (append-nil (encode r))
 
@@ -304,7 +304,7 @@ all-read : (s : State) → ended s ≡ true → so-far s ≡ records-of (sheet-o
 unfolding so-far records-of sheet-of ended heading closing
 all-read s e = rw (ended-last (s .last) e) refl
 
-length-reversed : {A : Type 0} (l : List A) → length (reversed l) ≡ length l
+pub length-reversed : {A : Type 0} (l : List A) → length (reversed l) ≡ length l
 unfolding reversed
 length-reversed [] = refl
 length-reversed (x ∷ l) = simp length-append (omega (arith, length-reversed l))

@@ -6,7 +6,7 @@ use mathlib.Core.List.{List, List·Memᴰ, Memᴰ·cast}
 use mathlib.Core.Option.{some}
 use Prim.Native.Nat.{ℕ, _<_}
 use native.Mathlib.Decide.{ℕ-discrete}
-use lib.Dec.{T, ltb, eqb, ltb→lt, eqb→eq, eqb-refl}
+use lib.Dec.{T, ltb, eqb, ltb→lt, lt→ltb, eqb→eq, eqb-refl}
 use lib.ListN.{length}
 use Rattle.model.specs.Table.{Row, Tag, Mesg, Text, Datum, Name, Skey, Akey, Pubk, Inv, Ltk, Pair, Enc, Hash, Row-discrete, row, kind, first, second, row-of-kind, alike, is-name, is-key, is-mesg, earlier, sorted}
 use Rattle.model.specs.Reading.{on-sheet}
@@ -115,6 +115,58 @@ sorted-true rows (Ltk a b) h =
 sorted-true rows (Pair a b) h = tt
 sorted-true rows (Enc a b) h = is-mesg-false (rows b) h
 sorted-true rows (Hash a) h = tt
+
+pub true-earlier : (i : ℕ) (r : Row) → Earlier i r → T (earlier i r)
+unfolding earlier Earlier
+true-earlier i (Tag a) h = tt
+true-earlier i (Mesg a) h = tt
+true-earlier i (Text a) h = tt
+true-earlier i (Datum a) h = tt
+true-earlier i (Name a) h = tt
+true-earlier i (Skey a) h = tt
+true-earlier i (Akey a) h = tt
+true-earlier i (Pubk a) h = lt→ltb a i h
+true-earlier i (Inv a) h = lt→ltb a i h
+true-earlier i (Ltk a b) h = pair-up (ltb a i) (ltb b i) (lt→ltb a i (h .0)) (lt→ltb b i (h .1))
+true-earlier i (Pair a b) h = pair-up (ltb a i) (ltb b i) (lt→ltb a i (h .0)) (lt→ltb b i (h .1))
+true-earlier i (Enc a b) h = pair-up (ltb a i) (ltb b i) (lt→ltb a i (h .0)) (lt→ltb b i (h .1))
+true-earlier i (Hash a) h = lt→ltb a i h
+
+true-name : {r : Row} → IsName r → T (is-name r)
+unfolding is-name kind
+true-name a-name = tt
+
+no-mesg : (r : Row) → ((n : ℕ) → r ≢ Mesg n) → T (not (is-mesg r))
+unfolding is-mesg kind
+no-mesg (Tag a) h = tt
+no-mesg (Mesg a) h = absurd (h a refl)
+no-mesg (Text a) h = tt
+no-mesg (Datum a) h = tt
+no-mesg (Name a) h = tt
+no-mesg (Skey a) h = tt
+no-mesg (Akey a) h = tt
+no-mesg (Pubk a) h = tt
+no-mesg (Inv a) h = tt
+no-mesg (Ltk a b) h = tt
+no-mesg (Pair a b) h = tt
+no-mesg (Enc a b) h = tt
+no-mesg (Hash a) h = tt
+
+pub true-sorted : (rows : ℕ → Row) (r : Row) → Sorted rows r → T (sorted rows r)
+unfolding sorted Sorted
+true-sorted rows (Tag a) h = tt
+true-sorted rows (Mesg a) h = tt
+true-sorted rows (Text a) h = tt
+true-sorted rows (Datum a) h = tt
+true-sorted rows (Name a) h = tt
+true-sorted rows (Skey a) h = tt
+true-sorted rows (Akey a) h = tt
+true-sorted rows (Pubk a) h = true-name h
+true-sorted rows (Inv a) h = rw (key-is h) tt
+true-sorted rows (Ltk a b) h = pair-up (is-name (rows a)) (is-name (rows b)) (true-name (h .0)) (true-name (h .1))
+true-sorted rows (Pair a b) h = tt
+true-sorted rows (Enc a b) h = no-mesg (rows b) h
+true-sorted rows (Hash a) h = tt
 
 -- Rows that are alike are equal
 

@@ -41,6 +41,8 @@ pub mod RecordBytes
 pub mod Standing
 pub mod Outcome
 pub mod Encoding
+pub mod Lengths
+pub mod Readable
 pub mod Continued
 pub mod Judgement
 pub mod Verdicts

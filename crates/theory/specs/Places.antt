@@ -1,5 +1,5 @@
 -- A list's members and their places.
-use mathlib.Core.Path.{_≡_, refl}
+use mathlib.Core.Path.{_≡_, refl, sym as back}
 use mathlib.Core.Logic.{⊎-elim}
 use mathlib.Core.List.{List, [], _∷_, List·Memᴰ, List·Memᴰ·head, List·Memᴰ·tail, List·Memᴰ·not-nil, List·Memᴰ·cases-cons, List·Memᴰ·append-cases}
 use mathlib.Core.Option.{none, some}
@@ -26,6 +26,18 @@ module _ {A : Type 0} where
   listed-at [] i d h = absurd (omega arith)
   listed-at (y ∷ l) zero d h = List·Memᴰ·head refl
   listed-at (y ∷ l) (suc i) d h = List·Memᴰ·tail (listed-at l i d (omega arith))
+
+  -- a member stands at a place
+  pub record Stands (l : List A) (d x : A) : Type 0 where
+    pub place : ℕ
+    pub inside : place < length l
+    pub is : getD l place d ≡ x
+
+  pub stands : {l : List A} {x : A} (d : A) → List·Memᴰ x l → Stands l d x
+  stands d (List·Memᴰ·head e) = record { place = 0; inside = omega arith; is = back e }
+  stands d (List·Memᴰ·tail m) =
+      let s = stands d m in
+      record { place = suc (s .place); inside = omega (arith, s .inside); is = s .is }
 
   pub in-reversed : (l : List A) {x : A} → List·Memᴰ x (reversed l) → List·Memᴰ x l
   unfolding reversed

@@ -28,7 +28,7 @@ pub record Fair (rows : List Row) : Type 0 where
   pub sorted-args : (i : ℕ) → i < length rows → Sorted (row rows) (row rows i)
   pub distinct : (i j : ℕ) → i < length rows → j < length rows → row rows i ≡ row rows j → i ≡ j
 
-sorted-along : (f g : ℕ → Row) (m : ℕ) → ((j : ℕ) → j < m → f j ≡ g j) → (r : Row) → Earlier m r → Sorted f r → Sorted g r
+pub sorted-along : (f g : ℕ → Row) (m : ℕ) → ((j : ℕ) → j < m → f j ≡ g j) → (r : Row) → Earlier m r → Sorted f r → Sorted g r
 unfolding Earlier Sorted
 sorted-along f g m h (Tag n) e s = tt
 sorted-along f g m h (Mesg n) e s = tt

@@ -1,5 +1,5 @@
--- One substitution and no other on the source's variables. That no map rule hangs on which is taken rests on one thing alone: each
--- variable of an NO or UO atom occurs in an event.
+-- One substitution and no other on the source's variables. That no map rule hangs on which is taken rests on one thing alone:
+-- each variable of an NO or UO atom occurs in an event.
 use mathlib.Core.Path.{_≡_}
 use mathlib.Core.List.{List}
 use Prim.Native.Nat.{ℕ, _≤_}
