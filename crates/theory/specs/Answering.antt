@@ -24,14 +24,15 @@ use Rattle.theory.specs.Rules.{marked, reach}
 use Rattle.theory.specs.Carrying.{Marked, loose-rules, loose-decided}
 use Rattle.theory.specs.Skeletons.{at-one}
 use Rattle.theory.specs.ListTests.{some-found, finds-some}
-use Rattle.theory.specs.Happenings.{at-means, at-meant}
-use Rattle.theory.specs.Realizing.{OnTable, reached-before, before-decided, node-inside, recv-means}
+use Rattle.theory.specs.Happenings.{at-means, at-meant, recv-means}
+use Rattle.theory.specs.Realizing.{reached-before, before-decided}
 use Rattle.theory.specs.Precedence.{a-strand}
 use Rattle.theory.specs.Deciding.{less, dec-to, dec-both, dec-some, dec-all, First, first-of}
 use Rattle.theory.specs.Judgement.{Sound}
 use Rattle.theory.specs.Places.{inside-list}
 use Rattle.theory.specs.NoSecond.{one-drawing}
 use Rattle.model.specs.Rising as R
+use Rattle.theory.specs.OnTable.{OnTable, node-inside}
 
 -- The order of refusals leaves an answer
 
@@ -214,7 +215,7 @@ module _ (k : ℕ) (n : Node) (s : Sheet) (sound : Sound s) (D : Drawing) (h : H
       let good : Good (D .rows) = rw (h .drawing .rows) at (sound .good) in
       let ok = sound .drawings k D (h .drawing) in
       before-decided (D .rows) good (D .skeleton) ok n (ok .positions n _ (h .at))
-      (node-inside (D .rows) good (D .skeleton) ok (h .at)) (h .message) (h .at) i l
+      (node-inside (D .rows) (D .skeleton) ok (h .at)) (h .message) (h .at) i l
 
 module _ (k : ℕ) (n : Node) (t : ℕ) (s : Sheet) (sound : Sound s) where
   unfoldable pub derivable-had : Had (HasReceptionAndTerm k n t) Always (SaysDerivable k n t) [] (Verdict.accepted s)
@@ -276,9 +277,12 @@ module _ (test : ℕ → Bool) where
   passing-rising i zero = R.none
   passing-rising i (suc m) = go (test i) (passing-rising (suc i) m)
     where
+      later : (y : ℕ) → List·Memᴰ y (passing (suc i) m) → i < y
+      later y q = omega (arith, passing-in (suc i) m y q .from)
+
       go : (b : Bool) → Rising (λ a b. a < b) (passing (suc i) m)
           → Rising (λ a b. a < b) (cond b (i ∷ passing (suc i) m) (passing (suc i) m))
-      go true r = more {x = i} (λ y q. omega (arith, passing-in (suc i) m y q .from)) r
+      go true r = more {x = i} later r
       go false r = r
 
   pub passing-iff : (n j : ℕ) → List·Memᴰ j (passing 0 n) ↔ ((j < n) × T (test j))
@@ -334,13 +338,13 @@ module _ (rows : List Row) (good : Good rows) (K : Skeleton ℕ) (ok : OnTable r
   pub reception-iff : {n : Node} {u : ℕ} → At K n (recv u)
       → T (marked (reached-before rows K n) u) ↔ DerivableBefore L n (term rows u)
   unfolding message
-  reception-iff {n} {u} a = before-decided rows good K ok n (ok .positions n (recv u) a) (node-inside rows good K ok a) u a u
+  reception-iff {n} {u} a = before-decided rows good K ok n (ok .positions n (recv u) a) (node-inside rows K ok a) u a u
       (ok .messages n (recv u) a)
 
   pub only-reception : {n : Node} {u : ℕ} {t : Term} → At K n (recv u) → At L n (recv t) → term rows u ≡ t
   only-reception {n} {u} a b =
       let (e, c, q) = at-meant (term rows) K b in
-      let (w, z, y) = recv-means rows good K ok e q in
+      let (w, z, y) = recv-means (term rows) e q in
       let d : At K n (recv w) = rw z at c in
       let x = at-one K a d in
       let v : u ≡ w = cc in
@@ -351,7 +355,7 @@ module _ (rows : List Row) (good : Good rows) (K : Skeleton ℕ) (ok : OnTable r
       record {
         realized = λ t b.
             let (e, c, q) = at-meant (term rows) K b in
-            let (w, z, y) = recv-means rows good K ok e q in
+            let (w, z, y) = recv-means (term rows) e q in
             absurd (f w (rw z at c));
       }
 

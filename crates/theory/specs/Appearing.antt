@@ -15,9 +15,10 @@ use Rattle.model.specs.Skeleton.{Event, send, recv, message, Skeleton, At, trac
 use Rattle.model.specs.Events.{Origin, Taken, Appearance, not-carried, in-send, in-reception, Appears, nowhere, first-sent, first-taken}
 use Rattle.theory.specs.Places.{not-there}
 use Rattle.theory.specs.GoodTable.{Good}
-use Rattle.theory.specs.Happenings.{at-means, at-meant}
+use Rattle.theory.specs.Happenings.{at-means, at-meant, message-means}
 use Rattle.theory.specs.Skeletons.{at-one}
-use Rattle.theory.specs.Realizing.{OnTable, carries, carries-iff, message-means}
+use Rattle.theory.specs.OnTable.{OnTable}
+use Rattle.theory.specs.Carrying.{carries, carries-iff}
 
 -- No second answer
 
@@ -80,7 +81,7 @@ module _ (rows : List Row) (K : Skeleton ℕ) (t : ℕ) where
   unfoldable pub appearance-from : ℕ → List (Event ℕ) → Appearance (means (term rows) K)
   unfolding seen-as carries message
   appearance-from p [] = not-carried
-  appearance-from p (e ∷ es) = cond (carries rows K t (message e)) (seen-as e p) (appearance-from (suc p) es)
+  appearance-from p (e ∷ es) = cond (carries rows t (message e)) (seen-as e p) (appearance-from (suc p) es)
 
   -- on a strand
   unfoldable pub appearance : ℕ → Appearance (means (term rows) K)
@@ -105,11 +106,11 @@ module _ (rows : List Row) (good : Good rows) (K : Skeleton ℕ) (ok : OnTable r
     here p e c = record { is = c .rest 0 p (omega arith) }
 
     carried-here : (p : ℕ) (e : Event ℕ) {es : List (Event ℕ)} → Scan p (e ∷ es)
-        → T (carries rows K t (message e)) ↔ Carries (term rows t) (term rows (message e))
-    carried-here p e c = carries-iff rows good K t (message e) inside (ok .messages _ e (here p e c))
+        → T (carries rows t (message e)) ↔ Carries (term rows t) (term rows (message e))
+    carried-here p e c = carries-iff rows good t (message e) inside (ok .messages _ e (here p e c))
 
     -- one that does not carry it
-    scan : (p : ℕ) (e : Event ℕ) {es : List (Event ℕ)} → Scan p (e ∷ es) → ¬ T (carries rows K t (message e)) → Scan (suc p) es
+    scan : (p : ℕ) (e : Event ℕ) {es : List (Event ℕ)} → Scan p (e ∷ es) → ¬ T (carries rows t (message e)) → Scan (suc p) es
     scan p e c n = record { unseen = unseen-next; rest = λ i q z. c .rest (suc i) q (omega arith) }
       where
         unseen-next : (q : ℕ) (d : Event Term) → q < suc p → At L (record { strand = s; position = q }) d
@@ -121,9 +122,9 @@ module _ (rows : List Row) (good : Good rows) (K : Skeleton ℕ) (ok : OnTable r
             go (no h) =
                 let z : q ≡ p = omega arith in
                 let y : d ≡ on-message (term rows) e = at-one L (rw z at a) (at-means (term rows) K (here p e c)) in
-                n (carried-here p e c .1 (rw (y, message-means rows good K ok e) at k))
+                n (carried-here p e c .1 (rw (y, message-means (term rows) e) at k))
 
-    seen-appears : (p : ℕ) (e : Event ℕ) {es : List (Event ℕ)} → Scan p (e ∷ es) → T (carries rows K t (message e))
+    seen-appears : (p : ℕ) (e : Event ℕ) {es : List (Event ℕ)} → Scan p (e ∷ es) → T (carries rows t (message e))
         → Appears L (term rows t) s (seen-as rows K t e p)
     unfolding seen-as on-message message
     seen-appears p (send u) c k =
@@ -157,9 +158,9 @@ module _ (rows : List Row) (good : Good rows) (K : Skeleton ℕ) (ok : OnTable r
     appears-from : (p : ℕ) (es : List (Event ℕ)) → Scan p es → Appears L (term rows t) s (appearance-from rows K t p es)
     unfolding appearance-from
     appears-from p [] c = none-carries p c
-    appears-from p (e ∷ es) c = go (carries rows K t (message e)) refl (appears-from (suc p) es)
+    appears-from p (e ∷ es) c = go (carries rows t (message e)) refl (appears-from (suc p) es)
       where
-        go : (b : Bool) → carries rows K t (message e) ≡ b
+        go : (b : Bool) → carries rows t (message e) ≡ b
             → (Scan (suc p) es → Appears L (term rows t) s (appearance-from rows K t (suc p) es))
             → Appears L (term rows t) s (cond b (seen-as rows K t e p) (appearance-from rows K t (suc p) es))
         go true q f = seen-appears p e c (rw q tt)

@@ -16,6 +16,7 @@ use Rattle.theory.specs.Numbers.{row-of, law, number, number-term, term-
 use Rattle.theory.specs.OnSheet.{OnSheet, on-pair, on-enc, term-number, number-inside, row-at-number}
 use Rattle.theory.specs.Rules.{Rule, _⊢_, Reached, by, marked, reach, reach-iff, InRange}
 use Rattle.theory.specs.RowRules.{rules-from, of-row, each-row}
+use Rattle.model.specs.Carry.{Carries}
 
 -- the terms whose numbers the test marks
 pub record Marked (rows : List Row) (set : ℕ → Bool) (t : Term) : Type 0 where
@@ -169,3 +170,27 @@ module _ (rows : List Row) (good : Good rows) (set : ℕ → Bool) (t : ℕ) (in
   loose-decided i h =
       Iff·trans (reach-iff (length rows) (loose-rules set rows t) rules-below i)
       (reached-free, λ l. rw (number-term rows good i h) at (free-reached (record { which = i; inside = h; means = refl }) l))
+
+-- Carrying is being loose in no set
+
+unfoldable pub carries : List Row → ℕ → ℕ → Bool
+unfolding reach loose-rules
+carries rows t i = marked (reach (loose-rules (λ _. false) rows t) (length rows)) i
+
+loose-carries : {S : Term → Type 0} {t u : Term} → Loose S t u → Carries t u
+loose-carries Loose.here = Carries.here
+loose-carries (Loose.left n l) = Carries.left (loose-carries l)
+loose-carries (Loose.right n l) = Carries.right (loose-carries l)
+loose-carries (Loose.body n l) = Carries.body (loose-carries l)
+
+module _ (rows : List Row) (good : Good rows) where
+  carries-loose : {t u : Term} → Carries t u → Loose (Marked rows (λ _. false)) t u
+  carries-loose Carries.here = Loose.here
+  carries-loose (Carries.left p) = Loose.left (λ m. m .holds) (carries-loose p)
+  carries-loose (Carries.right p) = Loose.right (λ m. m .holds) (carries-loose p)
+  carries-loose (Carries.body p) = Loose.body (λ m. m .holds) (carries-loose p)
+
+  -- CARRYING IS DECIDED
+  pub carries-iff : (t i : ℕ) → t < length rows → i < length rows → T (carries rows t i) ↔ Carries (term rows t) (term rows i)
+  unfolding carries
+  carries-iff t i h k = Iff·trans (loose-decided rows good (λ _. false) t h i k) (loose-carries, carries-loose)

@@ -19,11 +19,12 @@ use Rattle.theory.specs.GoodTable.{Good}
 use Rattle.theory.specs.Rules.{marked, reach}
 use Rattle.theory.specs.Skeletons.{at-one}
 use Rattle.theory.specs.Precedence.{Edge, edges, before-edge}
-use Rattle.theory.specs.Happenings.{Happening, events, event-listed, listed-event, at-means, at-meant, before-means, before-meant}
-use Rattle.theory.specs.Realizing.{OnTable, carries, carries-iff, is-origin, origin-of, origin-found, node-inside, recv-means, message-means}
-use Rattle.theory.specs.MapTests.{before, before-iff}
+use Rattle.theory.specs.Happenings.{Happening, events, event-listed, listed-event, at-means, at-meant, before-means, before-meant, recv-means, message-means}
 use Rattle.theory.specs.Occurring.{occur-rules, occurs-iff, occurs-on}
 use Rattle.theory.specs.Deciding.{dec-of, dec-to, dec-not, dec-both, Some, dec-some, All, dec-all, dec-below, Lowest, lowest-of}
+use Rattle.theory.specs.OnTable.{OnTable, node-inside, before, before-iff}
+use Rattle.theory.specs.Carrying.{carries, carries-iff}
+use Rattle.theory.specs.Origins.{is-origin, origin-of, origin-found}
 
 unfoldable pub variable-test : (t : Term) → Dec (Variable t)
 variable-test (tag n) = no (elim [ ])
@@ -58,7 +59,7 @@ module _ (rows : List Row) (good : Good rows) (K : Skeleton ℕ) (ok : OnTable r
 
   -- an event of the skeleton
   pub event-of : {n : Node} {d : Event Term} → At L n d → (e : Event ℕ) × At K n e × (term rows (message e) ≡ message d)
-  event-of a = let (e, b, q) = at-meant (term rows) K a in (e, b, back (message-means rows good K ok e) ∙ ap message q)
+  event-of a = let (e, b, q) = at-meant (term rows) K a in (e, b, back (message-means (term rows) e) ∙ ap message q)
 
   module _ (t : ℕ) (h : t < length rows) where
     -- 11
@@ -66,13 +67,13 @@ module _ (rows : List Row) (good : Good rows) (K : Skeleton ℕ) (ok : OnTable r
     unfolding dec-to dec-some dec-of carries events message
     carried-test =
         dec-to (dec-some (λ (x : Happening ℕ). Carries (term rows t) (term rows (message (x .1)))) (events K)
-        (λ x m. dec-of (carries rows K t (message (x .1)))
-        (carries-iff rows good K t (message (x .1)) h (ok .messages (x .0) (x .1) (listed-event K x m)))))
+        (λ x m. dec-of (carries rows t (message (x .1)))
+        (carries-iff rows good t (message (x .1)) h (ok .messages (x .0) (x .1) (listed-event K x m)))))
         (λ s. record {
           node = s .which .0;
           event = on-message (term rows) (s .which .1);
           at = at-means (term rows) K (listed-event K (s .which) (s .listed));
-          carries = rw (message-means rows good K ok (s .which .1)) (s .holds);
+          carries = rw (message-means (term rows) (s .which .1)) (s .holds);
         })
         (λ c.
         let (e, a, q) = event-of (c .at) in
@@ -89,7 +90,7 @@ module _ (rows : List Row) (good : Good rows) (K : Skeleton ℕ) (ok : OnTable r
           node = s .which .0;
           event = on-message (term rows) (s .which .1);
           at = at-means (term rows) K (listed-event K (s .which) (s .listed));
-          occurs = rw (message-means rows good K ok (s .which .1)) (s .holds);
+          occurs = rw (message-means (term rows) (s .which .1)) (s .holds);
         })
         (λ c.
         let (e, a, q) = event-of (c .at) in
@@ -163,9 +164,9 @@ module _ (rows : List Row) (good : Good rows) (K : Skeleton ℕ) (ok : OnTable r
     unfolding dec-to dec-both dec-not dec-of carries before message
     late-test m n (send u) a = no (elim [ ])
     late-test m n (recv u) a =
-        dec-to (dec-both (dec-of (carries rows K t u) (carries-iff rows good K t u h (ok .messages n (recv u) a)))
+        dec-to (dec-both (dec-of (carries rows t u) (carries-iff rows good t u h (ok .messages n (recv u) a)))
         (dec-not (dec-of (before K m n) (before-iff rows K ok m n (ok .positions n (recv u) a)
-        (node-inside rows good K ok a)))))
+        (node-inside rows K ok a)))))
         (λ p. late (p .0) (p .1)) of-late
 
     pub record EarlyAt (x : Happening ℕ) : Type 0 where
@@ -197,7 +198,7 @@ module _ (rows : List Row) (good : Good rows) (K : Skeleton ℕ) (ok : OnTable r
     of-early e =
         let (x, m) = listed-origin (e .origin) in
         let (d, a, q) = at-meant (term rows) K (e .at) in
-        let (u, z, y) = recv-means rows good K ok d q in
+        let (u, z, y) = recv-means (term rows) d q in
         let b : At K (e .node) (recv u) = rw z at a in
         let l : Late (e .source) (e .node) (recv u) = late {u = u} (rw y (e .carries))
         (λ k. e .not-after (before-means (term rows) K k)) in

@@ -5,7 +5,7 @@ use mathlib.Core.Option.{some}
 use Prim.Native.Nat.{ℕ, zero, suc, _+_}
 use native.Mathlib.Omega.{arith}
 use lib.ListN.{getD, getElem?, List·getD-map, length-map}
-use Rattle.model.specs.Skeleton.{on-message, means, Event, Node, Skeleton, trace, height, At}
+use Rattle.model.specs.Skeleton.{on-message, means, Event, Node, Skeleton, trace, height, At, send, message, recv}
 use Rattle.model.specs.Events.{Before, next, listed, chain}
 use Rattle.theory.specs.Each.{Each, each-nil, each-cons, each-append}
 use Rattle.theory.specs.Places.{not-there}
@@ -117,3 +117,20 @@ module _ {M N : Type 0} (f : M → N) (K : Skeleton M) where
   before-meant (next {s} h) = next (rw (height-means s) at h)
   before-meant (listed m) = listed m
   before-meant (chain p q) = chain (before-meant p) (before-meant q)
+
+-- what an event's message means, and which event it comes from
+
+pub message-means : {M N : Type 0} (f : M → N) (e : Event M) → message (on-message f e) ≡ f (message e)
+unfolding message on-message
+message-means f (send t) = refl
+message-means f (recv t) = refl
+
+pub send-means : {M N : Type 0} (f : M → N) (e : Event M) {t : N} → on-message f e ≡ send t → (u : M) × (e ≡ send u) × (f u ≡ t)
+unfolding on-message
+send-means f (send u) q = (u, refl, cc)
+send-means f (recv u) q = let z : _≡_ {A = ℕ} 0 1 = cc in absurd (omega arith)
+
+pub recv-means : {M N : Type 0} (f : M → N) (e : Event M) {t : N} → on-message f e ≡ recv t → (u : M) × (e ≡ recv u) × (f u ≡ t)
+unfolding on-message
+recv-means f (recv u) q = (u, refl, cc)
+recv-means f (send u) q = let z : _≡_ {A = ℕ} 0 1 = cc in absurd (omega arith)

@@ -18,15 +18,14 @@ use Rattle.model.specs.Accepting.{Lacking, Carried, Missing, NonRight, UniqRigh
 use Rattle.theory.specs.Parts.{carried-occurs, occurs-after}
 use Rattle.theory.specs.GoodTable.{IsKey, Good, Earlier, Sorted, row-same, key-is}
 use Rattle.theory.specs.Skeletons.{IsSkeleton}
-use Rattle.theory.specs.Happenings.{at-meant, before-means, before-meant}
-use Rattle.theory.specs.Realizing.{OnTable, node-inside, recv-means}
-use Rattle.theory.specs.MapTests.{before, before-iff}
+use Rattle.theory.specs.Happenings.{at-meant, before-means, before-meant, recv-means}
 use Rattle.theory.specs.Occurring.{occurs-on}
 use Rattle.theory.specs.Deciding.{dec-of, Below, dec-below, First, first-of}
 use Rattle.theory.specs.Faults.{occurs-test, FaultAt, judge-skeleton}
 use Rattle.theory.specs.NoSecond.{one-drawing}
 use Rattle.model.specs.Accepting as Acc
 use Rattle.theory.specs.Places.{inside-list}
+use Rattle.theory.specs.OnTable.{OnTable, node-inside, before, before-iff}
 
 -- what reading alone gives
 pub record Raw (s : Sheet) : Type 0 where
@@ -300,10 +299,10 @@ module _ (rows : List Row) (good : Good rows) (K : Skeleton ℕ) (ok : OnTable r
   unfolding message
   before-stable m n u a f =
       let (e, b, q) = at-meant (term rows) K a in
-      let (w, z, y) = recv-means rows good K ok e q in
+      let (w, z, y) = recv-means (term rows) e q in
       let c : At K n (recv w) = rw z at b in
       before-means (term rows) K
-      (stable (dec-of (before K m n) (before-iff rows K ok m n (ok .positions n (recv w) c) (node-inside rows good K ok c)))
+      (stable (dec-of (before K m n) (before-iff rows K ok m n (ok .positions n (recv w) c) (node-inside rows K ok c)))
       (λ g. f (λ h. g (before-meant (term rows) K h))))
 
   occurs-stable : (t : ℕ) → t < length rows → (x : Term) → Occurs x (term rows t) → ¬ (¬ InSomeEvent L x) → InSomeEvent L x

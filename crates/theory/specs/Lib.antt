@@ -26,6 +26,8 @@ pub mod Occurring
 pub mod Precedence
 -- Skeletons: their events, origins, what is derivable before a reception, refusals 10 to 14.
 pub mod Happenings
+pub mod OnTable
+pub mod Origins
 pub mod Skeletons
 pub mod Realizing
 pub mod Appearing

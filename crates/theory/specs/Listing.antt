@@ -16,13 +16,13 @@ use Rattle.model.specs.Maps.{IsStrandMap, TheMaps}
 use Rattle.model.specs.Answers.{HasSkeletons, end-to-end, over, ListRoom, SaysList}
 use Rattle.theory.specs.GoodTable.{Good}
 use Rattle.theory.specs.ListTests.{keep, kept}
-use Rattle.theory.specs.Realizing.{OnTable}
 use Rattle.theory.specs.MapLaws.{Rule1, AtomsOccur, skeleton-atoms}
 use Rattle.theory.specs.MapTests.{each-first, candidates, map-test, maps, IsListed, listed-iff}
 use Rattle.theory.specs.Deciding.{dec-of, dec-to, dec-both}
 use Rattle.theory.specs.Judgement.{Sound}
 use Rattle.theory.specs.NoSecond.{maps-one}
 use Rattle.theory.specs.Answering.{Meets, Had, had, meets-skeleton}
+use Rattle.theory.specs.OnTable.{OnTable}
 
 -- Rising
 

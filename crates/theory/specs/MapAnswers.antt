@@ -20,8 +20,7 @@ use Rattle.theory.specs.GoodTable.{Good}
 use Rattle.theory.specs.Numbers.{number}
 use Rattle.theory.specs.OnSheet.{OnSheet, on-pair, on-enc, on-hash, on-inverse, number-inside, term-number}
 use Rattle.theory.specs.Find.{find}
-use Rattle.theory.specs.Happenings.{at-meant}
-use Rattle.theory.specs.Realizing.{OnTable, message-means}
+use Rattle.theory.specs.Happenings.{at-meant, message-means}
 use Rattle.theory.specs.Matching.{found, serves, serves-granted, granted-serves}
 use Rattle.theory.specs.MapLaws.{Rule1, AtomsOccur, atoms-agree, skeleton-atoms}
 use Rattle.theory.specs.MapTests.{asked, test₁, test₂, test₄, test₅, test₆, rule₁-iff, rule₂-iff, wishes-inside, granted-rule₃, rule₃-granted, rule₄-iff, rule₅-iff, rule₆-iff}
@@ -32,6 +31,7 @@ use Rattle.theory.specs.Judgement.{Sound}
 use Rattle.theory.specs.NoSecond.{upto-less}
 use Rattle.theory.specs.Answering.{Told, Had, had}
 use Rattle.theory.specs.Listing.{meets-skeletons}
+use Rattle.theory.specs.OnTable.{OnTable}
 
 -- The image of a part of a term whose image is on the sheet is on the sheet
 
@@ -143,7 +143,7 @@ module _ (rows : List Row) (good : Good rows) (A B : Skeleton ℕ) (okA : OnTabl
         let g = v .occurs in
         let (d, b, _) = r₂ (g .node) (g .event) (g .at) in
         let (e, c, q) = at-meant (term rows) B b in
-        let m : term rows (message e) ≡ apply σ (message (g .event)) = back (message-means rows good B okB e)
+        let m : term rows (message e) ≡ apply σ (message (g .event)) = back (message-means (term rows) e)
         ∙ (ap message q ∙ back (r₃ (g .node) (g .event) d (g .at) b)) in
         part-image rows good σ (g .occurs) (record { which = message e; inside = okB .messages _ e c; means = m })
 

@@ -7,7 +7,7 @@ use mathlib.Core.Option.{Option, none, some}
 use Prim.Native.Nat.{ℕ, zero, suc, _+_, _*_, _<_}
 use native.Mathlib.Omega.{arith}
 use native.Mathlib.Decide.{ℕ-discrete}
-use lib.Dec.{T, eqb, ltb, eqb→eq, eqb-refl, ltb→lt, lt→ltb}
+use lib.Dec.{T, ltb, ltb→lt, lt→ltb}
 use lib.ListN.{length, getD, getElem?, length-map}
 use Rattle.model.specs.Term.{Term}
 use Rattle.model.specs.Subst.{Subst, apply}
@@ -19,31 +19,15 @@ use Rattle.model.specs.Maps.{move, SameDirection, both-send, both-receive, Rule
 use Rattle.theory.specs.Tests.{both, pair-up, implied, implies}
 use Rattle.theory.specs.Each.{Each, each-nil, each-cons, each-append}
 use Rattle.theory.specs.GoodTable.{Good}
-use Rattle.theory.specs.Rules.{marked, reach}
-use Rattle.theory.specs.Precedence.{code, Low, Edge, Leads, stop, step, edges, to-rules, leads-decided, before-edge, edge-leads}
-use Rattle.theory.specs.Happenings.{Happening, events, event-listed, listed-event, at-means, at-meant, before-means, before-meant}
+use Rattle.theory.specs.Precedence.{code, Low, Edge, Leads, stop, step, edges, before-edge, edge-leads}
+use Rattle.theory.specs.Happenings.{Happening, events, event-listed, listed-event, at-means, at-meant, before-means, before-meant, message-means}
 use Rattle.theory.specs.ListTests.{some-found, finds-some, all-of, all-each, each-all, keep, keeps, kept, every-true, true-every}
-use Rattle.theory.specs.Realizing.{OnTable, is-origin, origin-of, origin-found}
 use Rattle.theory.specs.Matching.{Wish, Granted, alike, alike-iff, found, serves, serves-granted, granted-serves}
 use Rattle.theory.specs.MapLaws.{Rule1, IsMap, AtomsOccur, atoms-agree}
+use Rattle.theory.specs.OnTable.{OnTable, same-node, before-iff, before, same-node-true, same-node-refl}
+use Rattle.theory.specs.Origins.{is-origin, origin-of, origin-found}
 
 -- The tests
-
-unfoldable pub same-node : Node → Node → Bool
-same-node m n = eqb (m .strand) (n .strand) && eqb (m .position) (n .position)
-
-same-node-true : (m n : Node) → T (same-node m n) → m ≡ n
-unfolding same-node
-same-node-true m n h =
-    let (a, b) = both (eqb (m .strand) (n .strand)) _ h in
-    let p : m .strand ≡ n .strand = eqb→eq _ _ a in
-    let q : m .position ≡ n .position = eqb→eq _ _ b in
-    λ i. record { strand = p i; position = q i }
-
-same-node-refl : (n : Node) → T (same-node n n)
-unfolding same-node
-same-node-refl n =
-    pair-up (eqb (n .strand) (n .strand)) (eqb (n .position) (n .position)) (eqb-refl (n .strand)) (eqb-refl (n .position))
 
 unfoldable pub aligned : Event ℕ → Option (Event ℕ) → Bool
 aligned (send t) none = false
@@ -61,34 +45,6 @@ answer (some e) = message e
 abbrev event-at : Skeleton ℕ → Node → Option (Event ℕ)
 event-at K n = getElem? (trace K (n .strand)) (n .position)
 
--- Precedence
-
-unfoldable pub precedes : Skeleton ℕ → Node → Edge → Bool
-unfolding reach to-rules edges code same-node
-precedes K n e = marked (reach (to-rules (edges K) n) (length (K .strands) * 16)) (code (e .1))
-
-unfoldable pub before : Skeleton ℕ → Node → Node → Bool
-unfolding some-of precedes same-node edges
-before K m n = some-of (λ e. same-node (e .0) m && precedes K n e) (edges K)
-
-module _ (rows : List Row) (K : Skeleton ℕ) (ok : OnTable rows K) where
-  pub before-iff : (m n : Node) → Low n → code n < length (K .strands) * 16 → T (before K m n) ↔ Before K m n
-  unfolding before precedes
-  before-iff m n h k = (
-    λ t.
-        let ((a, b), l, q) = some-found (λ e. same-node (e .0) m && precedes K n e) (edges K) t in
-        let (x, y) = both (same-node a m) _ q in
-        rw (same-node-true a m x) at (edge-leads K l (decided b (ok .low (a, b) l .1) .0 y)),
-    λ p.
-        let (o, l, q) = before-edge K p in
-        finds-some (λ e. same-node (e .0) m && precedes K n e) (edges K) l
-        (pair-up (same-node m m) _ (same-node-refl m) (decided o (ok .low (m, o) l .1) .1 q)),
-  )
-    where
-      decided : (o : Node) → Low o
-          → T (marked (reach (to-rules (edges K) n) (length (K .strands) * 16)) (code o)) ↔ Leads (edges K) o n
-      decided o l = leads-decided (edges K) (ok .low) n h (length (K .strands) * 16) (λ e m. ok .nodes e m .0) k o l
-
 -- Rules 1 to 3
 
 module _ (rows : List Row) where
@@ -102,11 +58,6 @@ module _ (rows : List Row) where
   unfolding aligned on-message
   means-aligned (send t) (send u) s = tt
   means-aligned (recv t) (recv u) s = tt
-
-  message-means : (e : Event ℕ) → message (on-message (term rows) e) ≡ term rows (message e)
-  unfolding message on-message
-  message-means (send t) = refl
-  message-means (recv t) = refl
 
 module _ (rows : List Row) (A B : Skeleton ℕ) (f : ℕ → ℕ) where
   unfoldable pub test₁ : Bool
@@ -216,7 +167,7 @@ module _ (rows : List Row) (good : Good rows) (A B : Skeleton ℕ) (okA : OnTabl
         let (d₀, b₀, p) = at-meant (term rows) B b in
         let h = g (wish rows A B f (n, e₀)) (Memᴰ·map (wish rows A B f) (event-listed A a₀)) in
         let y : apply σ (term rows (message e₀)) ≡ term rows (message d₀) = rw (b₀ .is) at (h .is) in
-        rw (← q, ← p, message-means rows e₀, message-means rows d₀) y
+        rw (← q, ← p, message-means (term rows) e₀, message-means (term rows) d₀) y
 
     pub rule₃-granted : (σ : Subst) → Rule3 A′ B′ f σ → Each (Granted rows good σ) (asked rows A B f)
     unfolding Rule3 asked wish answer
@@ -225,7 +176,7 @@ module _ (rows : List Row) (good : Good rows) (A B : Skeleton ℕ) (okA : OnTabl
         let (d, b) = met x k in
         let a = listed-event A x k in
         let y : apply σ (term rows (message (x .1))) ≡ term rows (message d) =
-        rw (message-means rows (x .1), message-means rows d)
+        rw (message-means (term rows) (x .1), message-means (term rows) d)
         at (r (x .0) _ _ (at-means (term rows) A a) (at-means (term rows) B b)) in
         rw (← e, b .is) (record { from = okA .messages (x .0) (x .1) a; to = okB .messages (move f (x .0)) d b; is = y })
 

@@ -15,10 +15,10 @@ use Rattle.model.specs.Reading.{size, State, start, Said, refuse, says, read-re
 use Rattle.theory.specs.Each.{Each, each-nil, each-cons, each-append}
 use Rattle.theory.specs.Places.{not-there, inside-list, in-list, in-reversed}
 use Rattle.theory.specs.Precedence.{Edge, Low, code, steps, all-steps, edges}
-use Rattle.theory.specs.Realizing.{OnTable}
 use Rattle.theory.specs.Judgement.{Raw}
 use Rattle.theory.specs.Records.{RightTrace, was-read, takes-two}
 use Rattle.theory.specs.Standing.{Joins, Drawn, Kept, start-kept, kept-after, atom-inside}
+use Rattle.theory.specs.OnTable.{OnTable}
 
 -- No second outcome
 

@@ -16,9 +16,10 @@ use Rattle.theory.specs.Upto.{in-upto, below-upto}
 use Rattle.theory.specs.GoodTable.{Good}
 use Rattle.theory.specs.Locality.{derivable-mono}
 use Rattle.theory.specs.Reach.{NumberSent, NumberWithheld}
-use Rattle.theory.specs.Realizing.{OnTable, withheld, sent as sent-numbers, node-inside, sent-to, sent-from, withheld-to, withheld-from}
+use Rattle.theory.specs.Realizing.{withheld, sent as sent-numbers, sent-to, sent-from, withheld-to, withheld-from}
 use Rattle.theory.specs.ListTests.{keep, keeps, kept}
 use Rattle.theory.specs.Deciding.{says-yes}
+use Rattle.theory.specs.OnTable.{OnTable, node-inside}
 
 -- sets of messages and of atoms as lists: the same members
 pub record Equal {A : Type 0} (l m : List A) : Type 0 where
@@ -398,7 +399,7 @@ module _ (rows : List Row) (good : Good rows) (K : Skeleton ℕ) (ok : OnTable r
     pub context : Context (means (term rows) K) n
     context =
         let low = ok .positions n (recv u) at in
-        let inside = node-inside rows good K ok at in
+        let inside = node-inside rows K ok at in
         record {
           outpred = map (term rows) (sent-numbers rows K n);
           is-outpred = λ t. (

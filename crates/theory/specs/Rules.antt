@@ -46,6 +46,11 @@ unfoldable pub reach : List Rule → ℕ → List Bool
 unfolding passes pass fire ready
 reach rules n = passes rules n (replicate n false)
 
+-- no pass is one too many: each number comes from the one below it, and the highest is tried first
+pub chain-reached : reach (_⊢_ (2 ∷ []) 3 ∷ _⊢_ (1 ∷ []) 2 ∷ _⊢_ (0 ∷ []) 1 ∷ _⊢_ [] 0 ∷ []) 4 ≡ true ∷ true ∷ true ∷ true ∷ []
+unfolding reach
+chain-reached = refl
+
 -- Every mark is reached
 
 Sound : List Rule → List Bool → Type 0

@@ -110,14 +110,14 @@ unfolding _then_ on-atom on-key
 on-atom-then σ τ (text n) = refl
 on-atom-then σ τ (datum n) = refl
 on-atom-then σ τ (name n) = refl
-on-atom-then σ τ (symmetric k) = rw on-sym-then
-on-atom-then σ τ (asymmetric i k) = rw (on-asym-then, turned-turned)
+on-atom-then σ τ (symmetric k) = rw (on-sym-then σ τ k)
+on-atom-then σ τ (asymmetric i k) = rw (on-asym-then σ τ k, turned-turned)
 
 pub apply-then : (σ τ : Subst) (t : Term) → apply (_then_ σ τ) t ≡ apply τ (apply σ t)
 unfolding _then_ apply
 apply-then σ τ (tag n) = refl
 apply-then σ τ (mesg n) = refl
-apply-then σ τ (atom a) = rw on-atom-then
+apply-then σ τ (atom a) = rw (on-atom-then σ τ a)
 apply-then σ τ (pair t u) = ap₂ pair (apply-then σ τ t) (apply-then σ τ u)
 apply-then σ τ (enc t k) = ap₂ enc (apply-then σ τ t) (apply-then σ τ k)
 apply-then σ τ (hash t) = ap hash (apply-then σ τ t)

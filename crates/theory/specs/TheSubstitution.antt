@@ -12,12 +12,12 @@ use Rattle.model.specs.Skeleton.{Skeleton, means}
 use Rattle.model.specs.Maps.{to, Kept, Upto, Rule5, Rule6, SourceVariable}
 use Rattle.theory.specs.GoodTable.{Good}
 use Rattle.theory.specs.OnSheet.{OnSheet}
-use Rattle.theory.specs.Realizing.{OnTable}
 use Rattle.theory.specs.Matching.{found}
 use Rattle.theory.specs.MapLaws.{AtomsOccur, images-agree, atoms-agree}
 use Rattle.theory.specs.MapTests.{asked}
 use Rattle.theory.specs.MapAnswers.{served, serving, image-on}
 use Rattle.theory.specs.NoSecond.{kept-less}
+use Rattle.theory.specs.OnTable.{OnTable}
 
 module _ (A B : Skeleton Term) (bytes : List ℕ) (σ τ : Subst) (p : Kept A B bytes 3 σ) (q : Kept A B bytes 3 τ) where
   -- on the source's variables there is no other
