@@ -1,5 +1,5 @@
--- Where a sheet lies in its table. The terms: their kinds, then the first arguments, then the second ones, a byte each.
--- Then the counts of terms and of skeletons. Then a block for each skeleton.
+-- Where a sheet lies in its table. The terms: their kinds, then the first arguments, then the second ones, a byte each. Then the counts of
+-- terms and of skeletons. Then a block for each skeleton.
 use Prim.Native.Nat.{ℕ, _+_, _*_}
 
 abbrev pub firsts : ℕ

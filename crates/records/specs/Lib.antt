@@ -1,0 +1,3 @@
+-- The marks as numbers, and what the readers' answers say.
+pub mod Marks
+pub mod Said

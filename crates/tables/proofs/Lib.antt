@@ -1,0 +1,11 @@
+-- Laws that belong to no one function.
+pub mod Upto
+pub mod Stored
+pub mod Look
+pub mod Parts
+pub mod RowPuts
+pub mod Right
+pub mod BlockPuts
+pub mod StrandPuts
+pub mod Begins
+pub mod Nodes

@@ -1,0 +1,29 @@
+-- `tables::blocks::put_uniq` meets its contract.
+-- Assumes nothing.
+use borrow.Author.Needs.{needs}
+use native.Mathlib.Omega.{arith}
+use lib.ListN.{length-set}
+use Rattle.tables.proofs.Stored.{put-set}
+use Rattle.tables.proofs.BlockPuts.{uniq-put}
+use Rattle.tables.proofs.blocks.put_uniq.Statement.{statement}
+use Rattle.tables.proofs.blocks.put_uniq.Tie as tie
+
+pub put-uniq-spec : {M : Type 1} → statement M
+put-uniq-spec =
+    tie.close
+    (tie.spec
+    (λ c. search needs)
+    (λ c. search needs)
+    (λ c. search needs)
+    (λ c. search needs)
+    (λ c κs. search needs)
+    (λ c. search needs)
+    (λ c. search needs)
+    (λ c. search needs)
+    (λ c. search needs)
+    (λ c. search needs)
+    (λ c. simp length-set (omega arith))
+    (λ c. search needs)
+    (λ c. let s = c .before .before .before in
+    uniq-put _ _ _ (s .args .k) (c .wide .result) (s .args .atom .0) (s .pre .0) (s .pre .1) (c .wide .ensures) (omega arith)
+    (put-set _ _ _ (omega arith)) (put-set _ _ _ (simp length-set (omega arith)))))

@@ -1,0 +1,184 @@
+// The skeletons of a table: a block of bytes for each of them.
+ghost use mathlib.Core.Path.{_≡_};
+ghost use Prim.Native.Nat.{ℕ, _+_, _*_, _<_, _≤_};
+ghost use lib.ListN.{length};
+ghost use Rattle.model.specs.Lists.{upto};
+ghost use Rattle.model.specs.Says.{node-of};
+ghost use Rattle.model.specs.Reading.{event-at, event-in, with-strand, with-order, with-non, with-uniq};
+ghost use Rattle.tables.specs.Layout.{skeleton-count, block, strand-count, order-count, non-count, uniq-count, table-size};
+ghost use Rattle.tables.specs.Tables.{byte, skeleton-in, Filled};
+ghost use Rattle.tables.specs.Stores.{event-said, EventsPut, Redrawn, Begun, Emptied};
+use crate::BLOCK_SIZE;
+use crate::BLOCKS;
+use crate::DIRECTIONS_AT;
+use crate::HEIGHTS_AT;
+use crate::MESSAGES_AT;
+use crate::NON_COUNT;
+use crate::NONS_AT;
+use crate::ORDER_COUNT;
+use crate::ORDERS_AT;
+use crate::SKELETON_COUNT;
+use crate::STRAND_COUNT;
+use crate::TERM_COUNT;
+use crate::UNIQ_COUNT;
+use crate::UNIQS_AT;
+use crate::wide;
+use terms::Node;
+use terms::Term;
+
+// The direction of a send.
+const SEND: u8 = 0;
+
+// What a strand does at a node, where there is such a node.
+pub enum Event {
+    Send(Term),
+    Reception(Term),
+    Nothing,
+}
+
+// How many skeletons there are.
+pub fn skeletons_in(table: &[u8]) -> usize
+    requires { ⌜ length (now table) ≡ table-size ⌝ }
+    ensures { λ r. ⌜ r ≡ byte (now (table .entry)) skeleton-count ⌝ }
+{
+    wide(table[SKELETON_COUNT])
+}
+
+// How many strands, OR, NO and UO records the skeleton k has.
+pub fn strands_in(table: &[u8], k: usize) -> usize
+    requires { ⌜ (length (now table) ≡ table-size) × (k < 2) ⌝ }
+    ensures { λ r. ⌜ r ≡ byte (now (table .entry)) (block k + strand-count) ⌝ }
+{
+    wide(table[BLOCKS + BLOCK_SIZE * k + STRAND_COUNT])
+}
+
+pub fn orders_in(table: &[u8], k: usize) -> usize
+    requires { ⌜ (length (now table) ≡ table-size) × (k < 2) ⌝ }
+    ensures { λ r. ⌜ r ≡ byte (now (table .entry)) (block k + order-count) ⌝ }
+{
+    wide(table[BLOCKS + BLOCK_SIZE * k + ORDER_COUNT])
+}
+
+pub fn nons_in(table: &[u8], k: usize) -> usize
+    requires { ⌜ (length (now table) ≡ table-size) × (k < 2) ⌝ }
+    ensures { λ r. ⌜ r ≡ byte (now (table .entry)) (block k + non-count) ⌝ }
+{
+    wide(table[BLOCKS + BLOCK_SIZE * k + NON_COUNT])
+}
+
+pub fn uniqs_in(table: &[u8], k: usize) -> usize
+    requires { ⌜ (length (now table) ≡ table-size) × (k < 2) ⌝ }
+    ensures { λ r. ⌜ r ≡ byte (now (table .entry)) (block k + uniq-count) ⌝ }
+{
+    wide(table[BLOCKS + BLOCK_SIZE * k + UNIQ_COUNT])
+}
+
+// The event at a node of the skeleton k.
+pub fn event_at(table: &[u8], k: usize, node: Node) -> Event
+    requires { ⌜ Filled (now table) × (k < byte (now table) skeleton-count) ⌝ }
+    ensures { λ r. ⌜ event-said r ≡ event-at (skeleton-in (now (table .entry)) k) (node-of node) ⌝ }
+{
+    let b = BLOCKS + BLOCK_SIZE * k;
+    let s = node.strand.0 as usize;
+    let p = node.position as usize;
+    if wide(table[b + STRAND_COUNT]) <= s {
+        return Event::Nothing;
+    }
+    if wide(table[b + HEIGHTS_AT + s]) <= p {
+        return Event::Nothing;
+    }
+    let message = Term(table[b + MESSAGES_AT + 16 * s + p]);
+    if table[b + DIRECTIONS_AT + 16 * s + p] == SEND {
+        return Event::Send(message);
+    }
+    Event::Reception(message)
+}
+
+// No terms and no skeletons.
+pub fn clear(table: &mut [u8])
+    requires { ⌜ length (now table) ≡ table-size ⌝ }
+    ensures { λ _. ⌜ Emptied (now (table .exit)) ⌝ }
+{
+    table[TERM_COUNT] = 0;
+    table[SKELETON_COUNT] = 0;
+}
+
+// One skeleton more, with nothing in it yet.
+pub fn put_skeleton(table: &mut [u8])
+    requires { ⌜ Filled (now table) × (byte (now table) skeleton-count < 2) ⌝ }
+    ensures { λ _. ⌜ Begun (now (table .entry)) (now (table .exit)) ⌝ }
+{
+    let count = table[SKELETON_COUNT];
+    let k = wide(count);
+    let b = BLOCKS + BLOCK_SIZE * k;
+    table[b + STRAND_COUNT] = 0;
+    table[b + ORDER_COUNT] = 0;
+    table[b + NON_COUNT] = 0;
+    table[b + UNIQ_COUNT] = 0;
+    table[SKELETON_COUNT] = count + 1;
+}
+
+// The events of the ST record `rest`: their directions from d on, their messages from m on.
+fn put_events(table: &mut [u8], d: usize, m: usize, height: usize, rest: &[u8])
+    requires { ⌜ (d + 16 ≤ m) × (m + 16 ≤ length (now table)) × (height ≤ 16) × (3 + 2 * height ≤ length (now rest)) ⌝ }
+    ensures { λ _. ⌜ EventsPut d m height (now (rest .entry)) (now (table .entry)) (now (table .exit)) ⌝ }
+{
+    for i in 0..height {
+        table[d + i] = rest[3 + 2 * i];
+        table[m + i] = rest[4 + 2 * i];
+    }
+}
+
+// One strand more in the skeleton k: the ST record `rest`.
+pub fn put_strand(table: &mut [u8], k: usize, height: u8, rest: &[u8])
+    requires { ⌜ Filled (now table) × (k < byte (now table) skeleton-count) × (byte (now table) (block k + strand-count) < 6) × (height ≤ 16) × (3 + 2 * height ≤ length (now rest)) ⌝ }
+    ensures { λ _. ⌜ Redrawn k (with-strand (skeleton-in (now (table .entry)) k) (upto height (event-in (now (rest .entry))))) (now (table .entry)) (now (table .exit)) ⌝ }
+{
+    let b = BLOCKS + BLOCK_SIZE * k;
+    let count = table[b + STRAND_COUNT];
+    let n = wide(count);
+    let d = b + DIRECTIONS_AT + 16 * n;
+    let m = b + MESSAGES_AT + 16 * n;
+    put_events(table, d, m, height as usize, rest);
+    table[b + HEIGHTS_AT + n] = height;
+    table[b + STRAND_COUNT] = count + 1;
+}
+
+// One OR record more in the skeleton k.
+pub fn put_order(table: &mut [u8], k: usize, send: Node, reception: Node)
+    requires { ⌜ Filled (now table) × (k < byte (now table) skeleton-count) × (byte (now table) (block k + order-count) < 64) ⌝ }
+    ensures { λ _. ⌜ Redrawn k (with-order (skeleton-in (now (table .entry)) k) (node-of send) (node-of reception)) (now (table .entry)) (now (table .exit)) ⌝ }
+{
+    let b = BLOCKS + BLOCK_SIZE * k;
+    let count = table[b + ORDER_COUNT];
+    let at = b + ORDERS_AT + 4 * wide(count);
+    table[at] = send.strand.0;
+    table[at + 1] = send.position;
+    table[at + 2] = reception.strand.0;
+    table[at + 3] = reception.position;
+    table[b + ORDER_COUNT] = count + 1;
+}
+
+// One NO record more in the skeleton k.
+pub fn put_non(table: &mut [u8], k: usize, atom: Term)
+    requires { ⌜ Filled (now table) × (k < byte (now table) skeleton-count) × (byte (now table) (block k + non-count) < 32) ⌝ }
+    ensures { λ _. ⌜ Redrawn k (with-non (skeleton-in (now (table .entry)) k) (atom .0)) (now (table .entry)) (now (table .exit)) ⌝ }
+{
+    let b = BLOCKS + BLOCK_SIZE * k;
+    let count = table[b + NON_COUNT];
+    let n = wide(count);
+    table[b + NONS_AT + n] = atom.0;
+    table[b + NON_COUNT] = count + 1;
+}
+
+// One UO record more in the skeleton k.
+pub fn put_uniq(table: &mut [u8], k: usize, atom: Term)
+    requires { ⌜ Filled (now table) × (k < byte (now table) skeleton-count) × (byte (now table) (block k + uniq-count) < 32) ⌝ }
+    ensures { λ _. ⌜ Redrawn k (with-uniq (skeleton-in (now (table .entry)) k) (atom .0)) (now (table .entry)) (now (table .exit)) ⌝ }
+{
+    let b = BLOCKS + BLOCK_SIZE * k;
+    let count = table[b + UNIQ_COUNT];
+    let n = wide(count);
+    table[b + UNIQS_AT + n] = atom.0;
+    table[b + UNIQ_COUNT] = count + 1;
+}
