@@ -1,0 +1,4 @@
+-- What the contracts of `matching` cite.
+pub mod Matches
+pub mod Ready
+pub mod Pass
