@@ -50,10 +50,6 @@ module _ (rows : List Row) (K : Skeleton ℕ) where
   unfolding is-send reached-before message
   is-open x = not (is-send (x .1)) && not (marked (reached-before (x .0)) (message (x .1)))
 
-  unfoldable pub open-at : List (Happening ℕ)
-  unfolding is-open keep events
-  open-at = keep is-open (events K)
-
   unfoldable pub realized : Bool
   unfolding is-open all-of events
   realized = all-of (λ x. not (is-open x)) (events K)
