@@ -2,8 +2,8 @@
 use mathlib.Core.Path.{_≡_, refl, ap, _∙_, sym as back}
 use mathlib.Core.Bool.{true, false}
 use mathlib.Core.Logic.{_↔_}
-use mathlib.Core.List.{List, [], _∷_}
-use Prim.Native.Nat.{ℕ, zero, suc, _+_, _≤_, _<_}
+use mathlib.Core.List.{List}
+use Prim.Native.Nat.{ℕ, suc, _≤_, _<_}
 use native.Mathlib.Omega.{arith}
 use lib.Dec.{T, eqb, eqb→eq, eqb-refl, leb, leb→le, le→leb}
 use lib.ListN.{length, getD, length-map}
@@ -32,6 +32,8 @@ use Rattle.theory.specs.NoSecond.{upto-less}
 use Rattle.theory.specs.Answering.{Told, Had, had}
 use Rattle.theory.specs.Listing.{meets-skeletons}
 use Rattle.theory.specs.OnTable.{OnTable}
+use Rattle.model.specs.Lists.{upto}
+use Rattle.theory.specs.Upto.{length-upto, upto-at}
 
 -- The image of a part of a term whose image is on the sheet is on the sheet
 
@@ -57,23 +59,6 @@ module _ (rows : List Row) (good : Good rows) (σ : Subst) where
   part-image (inside in-pubk o) s = part-image o (occurs-on rows good (inside in-pubk here) s)
   part-image (inside in-ltk-left o) s = part-image o (occurs-on rows good (inside in-ltk-left here) s)
   part-image (inside in-ltk-right o) s = part-image o (occurs-on rows good (inside in-ltk-right here) s)
-
--- A list from a function
-
-unfoldable pub table : (ℕ → ℕ) → ℕ → ℕ → List ℕ
-table f i zero = []
-table f i (suc m) = f i ∷ table f (suc i) m
-
-table-length : (f : ℕ → ℕ) (i m : ℕ) → length (table f i m) ≡ m
-unfolding table
-table-length f i zero = refl
-table-length f i (suc m) = ap suc (table-length f (suc i) m)
-
-table-at : (f : ℕ → ℕ) (i m j p d : ℕ) → p ≡ i + j → j < m → getD (table f i m) j d ≡ f p
-unfolding table
-table-at f i zero j p d e h = absurd (omega arith)
-table-at f i (suc m) zero p d e h = let q : p ≡ i = omega arith in rw q refl
-table-at f i (suc m) (suc j) p d e h = table-at f (suc i) m j p d (omega arith) (omega arith)
 
 module _ (rows : List Row) (good : Good rows) (A B : Skeleton ℕ) (okA : OnTable rows A) (okB : OnTable rows B)
     (occur : AtomsOccur (means (term rows) A)) where
@@ -102,12 +87,12 @@ module _ (rows : List Row) (good : Good rows) (A B : Skeleton ℕ) (okA : OnTabl
     image-if i (no n) = 255
 
     unfoldable pub images-of : List ℕ
-    unfolding table image-if less
-    images-of = table (λ i. image-if i (less i (length rows))) 0 (length rows)
+    unfolding upto image-if less
+    images-of = upto (length rows) (λ i. image-if i (less i (length rows)))
 
     images-full : length images-of ≡ length rows
     unfolding images-of
-    images-full = table-length (λ i. image-if i (less i (length rows))) 0 (length rows)
+    images-full = length-upto (length rows) (λ i. image-if i (less i (length rows)))
 
     shown-yes : {P : Type 0} (n : ℕ) (d : Dec P) → P → shown-as n d ≡ n
     unfolding shown-as
@@ -130,7 +115,7 @@ module _ (rows : List Row) (good : Good rows) (A B : Skeleton ℕ) (okA : OnTabl
     unfolding images-of
     image-at i h =
         let (l, e) = at-image i h (less i (length rows)) in
-        (l, table-at (λ i. image-if i (less i (length rows))) 0 (length rows) i i 255 (omega arith) h ∙ e)
+        (l, upto-at (length rows) (λ i. image-if i (less i (length rows))) 255 i h ∙ e)
 
   module _ (bytes : List ℕ) where
     abbrev f : ℕ → ℕ
