@@ -153,8 +153,7 @@ module _ (P Q : ℕ → Type 0) where
       which = f .which;
       listed = List·Memᴰ·tail (f .listed);
       holds = f .holds;
-      lower =
-          lower-later (f .which) (λ k. q) (f .lower);
+      lower = lower-later (f .which) (λ k. q) (f .lower);
     })
     lowest-step (inl p) (inl f) = inl (lowest-pick f p (less y (f .which)))
     lowest-step (inl p) (inr g) =

@@ -167,8 +167,7 @@ module _ (rows : List Row) (good : Good rows) (K : Skeleton ℕ) (ok : OnTable r
       record {
         listed = rw (w .means) at (listed-iff (K .uniq) (ok .uniqs) i (w .inside) .0 (h .0));
         node = n;
-        origin =
-            rw (w .means) at o;
+        origin = rw (w .means) at o;
       })
       (withheld-cases i (w .held))
 
