@@ -27,8 +27,11 @@ use Rattle.theory.specs.RisingLists.{rising-append, rising-keep}
 rising-longer : (b : ℕ) (l : List (List ℕ)) → Rising InDictionary l → Rising InDictionary (map (λ m. b ∷ m) l)
 rising-longer b [] r = none
 rising-longer b (x ∷ l) (more h r) =
-    more (λ y q. let (m, k, e) = Memᴰ·of-map (λ m. b ∷ m) l q in let d : InDictionary (b ∷ x) (b ∷ m) = later (h m k) in rw e
-    at d) (rising-longer b l r)
+    more
+    (λ y q.
+    let (m, k, e) = Memᴰ·of-map (λ m. b ∷ m) l q in
+    let d : InDictionary (b ∷ x) (b ∷ m) = later (h m k) in
+    rw e at d) (rising-longer b l r)
 
 record Starts (b : ℕ) (x : List ℕ) : Type 0 where
   head : ℕ
