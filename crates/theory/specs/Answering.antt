@@ -1,12 +1,12 @@
 -- There is an answer to each question about an accepted sheet.
 use mathlib.Core.Path.{_≡_, refl, _∙_, sym as back}
-use mathlib.Core.Bool.{Bool, true, false, not, cond, true≢false}
+use mathlib.Core.Bool.{Bool, true, false, not, true≢false}
 use mathlib.Core.Logic.{_↔_, _⊎_, inl, inr}
-use mathlib.Core.List.{List, [], _∷_, List·Memᴰ, List·Memᴰ·head, List·Memᴰ·tail, List·Memᴰ·not-nil}
+use mathlib.Core.List.{List, [], List·Memᴰ}
 use mathlib.Core.Option.{Option, none, some}
-use Prim.Native.Nat.{ℕ, zero, suc, _+_, _≤_, _<_}
+use Prim.Native.Nat.{ℕ, _≤_, _<_}
 use native.Mathlib.Omega.{arith}
-use native.Mathlib.Decide.{ℕ-discrete, decLt}
+use native.Mathlib.Decide.{decLt}
 use lib.Dec.{T, eqb, eqb→eq, eqb-refl}
 use lib.ListN.{length, getElem?}
 use Rattle.model.specs.Term.{Term, same}
@@ -16,7 +16,6 @@ use Rattle.model.specs.Skeleton.{Event, send, recv, message, Node, Skeleton, At
 use Rattle.model.specs.Events.{DerivableBefore, Realized}
 use Rattle.model.specs.Lists.{some-of}
 use Rattle.model.specs.Sheet.{Sheet, Verdict, Drawing, meant, HasSkeleton}
-use Rattle.model.specs.Rising.{Rising, more}
 use Rattle.model.specs.Answers.{Answer, refused, answered, refusal, Asked, no-such, too-short, said, Always, Tells, TheSheet, SaysCounts, HasTerms, Member, SaysWithin, HasReception, HasReceptionAndTerm, SaysDerivable, ReachIs, SaysReach, Sooner, strand, position, FirstOpen, realized, open-at, SaysRealized, yes-realized, first-open}
 use Rattle.theory.specs.Within.{Loose, within-iff-not-loose}
 use Rattle.theory.specs.GoodTable.{Good}
@@ -33,6 +32,7 @@ use Rattle.theory.specs.Places.{inside-list}
 use Rattle.theory.specs.NoSecond.{one-drawing}
 use Rattle.model.specs.Rising as R
 use Rattle.theory.specs.OnTable.{OnTable, node-inside}
+use Rattle.theory.specs.RisingLists.{passing, passing-iff, passing-rises}
 
 -- The order of refusals leaves an answer
 
@@ -233,72 +233,10 @@ module _ (k : ℕ) (n : Node) (t : ℕ) (s : Sheet) (sound : Sound s) where
       })
       (meets-both k s n t)
 
--- the numbers from i on, m of them, that pass
-module _ (test : ℕ → Bool) where
-  unfoldable pub passing : ℕ → ℕ → List ℕ
-  passing i zero = []
-  passing i (suc m) = cond (test i) (i ∷ passing (suc i) m) (passing (suc i) m)
-
-  record Passes (i m j : ℕ) : Type 0 where
-    from : i ≤ j
-    below : j < i + m
-    holds : T (test j)
-
-  passing-in : (i m j : ℕ) → List·Memᴰ j (passing i m) → Passes i m j
-  unfolding passing
-  passing-in i zero j k = absurd (List·Memᴰ·not-nil k)
-  passing-in i (suc m) j k = go (test i) refl k (passing-in (suc i) m j)
-    where
-      wider : Passes (suc i) m j → Passes i (suc m) j
-      wider p = record { from = omega (arith, p .from); below = omega (arith, p .below); holds = p .holds }
-
-      go : (b : Bool) → test i ≡ b → List·Memᴰ j (cond b (i ∷ passing (suc i) m) (passing (suc i) m))
-          → (List·Memᴰ j (passing (suc i) m) → Passes (suc i) m j)
-          → Passes i (suc m) j
-      go true e (List·Memᴰ·head q) f = record { from = omega arith; below = omega arith; holds = rw (q, e) tt }
-      go true e (List·Memᴰ·tail q) f = wider (f q)
-      go false e q f = wider (f q)
-
-  in-passing : (i m j : ℕ) → Passes i m j → List·Memᴰ j (passing i m)
-  unfolding passing
-  in-passing i zero j p = absurd (omega (arith, p .from, p .below))
-  in-passing i (suc m) j p = go (test i) refl (ℕ-discrete j i) (in-passing (suc i) m j)
-    where
-      go : (b : Bool) → test i ≡ b → Dec (j ≡ i) → (Passes (suc i) m j → List·Memᴰ j (passing (suc i) m))
-          → List·Memᴰ j (cond b (i ∷ passing (suc i) m) (passing (suc i) m))
-      go true e (yes q) f = List·Memᴰ·head q
-      go true e (no q) f =
-          List·Memᴰ·tail (f (record { from = omega (arith, p .from); below = omega (arith, p .below); holds = p .holds }))
-      go false e (yes q) f = absurd (rw (q, e) at (p .holds))
-      go false e (no q) f = f (record { from = omega (arith, p .from); below = omega (arith, p .below); holds = p .holds })
-
-  passing-rising : (i m : ℕ) → Rising (λ a b. a < b) (passing i m)
-  unfolding passing
-  passing-rising i zero = R.none
-  passing-rising i (suc m) = go (test i) (passing-rising (suc i) m)
-    where
-      later : (y : ℕ) → List·Memᴰ y (passing (suc i) m) → i < y
-      later y q = omega (arith, passing-in (suc i) m y q .from)
-
-      go : (b : Bool) → Rising (λ a b. a < b) (passing (suc i) m)
-          → Rising (λ a b. a < b) (cond b (i ∷ passing (suc i) m) (passing (suc i) m))
-      go true r = more {x = i} later r
-      go false r = r
-
-  pub passing-iff : (n j : ℕ) → List·Memᴰ j (passing 0 n) ↔ ((j < n) × T (test j))
-  passing-iff n j = (
-    λ q. let p = passing-in 0 n j q in (omega (arith, p .below), p .holds),
-    λ p. in-passing 0 n j
-        (record { from = omega arith; below = omega (arith, p .0); holds = p .1 }),
-  )
-
-  pub passing-rises : (n : ℕ) → Rising (λ a b. a < b) (passing 0 n)
-  passing-rises n = passing-rising 0 n
-
 module _ (k : ℕ) (n : Node) (s : Sheet) (sound : Sound s) where
   unfoldable pub reached-numbers : Drawing → List ℕ
   unfolding passing reached-before
-  reached-numbers D = passing (marked (reached-before (D .rows) (D .skeleton) n)) 0 (length (D .rows))
+  reached-numbers D = passing (marked (reached-before (D .rows) (D .skeleton) n)) (length (D .rows))
 
   pub reach-is : (D : Drawing) → HasReception k n s D → ReachIs k n D (length (reached-numbers D))
   unfolding reached-numbers

@@ -131,16 +131,14 @@ module _ (rows : List Row) (good : Good rows) (K : Skeleton ℕ) (ok : OnTable r
         first-sent (record {
           said = term rows u;
           at = at-means (term rows) K (here p (send u) c);
-          carries = carried-here p (send u)
-              c .0 k;
+          carries = carried-here p (send u) c .0 k;
           first = c .unseen;
         })
     seen-appears p (recv u) c k =
         first-taken (record {
           heard = term rows u;
           at = at-means (term rows) K (here p (recv u) c);
-          carries = carried-here p
-              (recv u) c .0 k;
+          carries = carried-here p (recv u) c .0 k;
           first = c .unseen;
         })
 

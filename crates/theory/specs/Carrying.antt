@@ -106,8 +106,7 @@ module _ (rows : List Row) (good : Good rows) (set : ℕ → Bool) (t : ℕ) (in
         which = number rows u;
         inside = number-inside rows good s;
         holds = rw e tt;
-        means =
-            term-number rows good s;
+        means = term-number rows good s;
       }))
       go false e = refl
 

@@ -147,8 +147,9 @@ record SameFault (m n p q : ℕ) : Type 0 where
 
 same-fault : {m n p q : ℕ} → fault m p ≡ fault n q → SameFault m n p q
 same-fault {m} {n} {p} {q} e =
-    let z : _≡_ {A = Refusal} (record { number = m; place = p; skeleton = 0 }) (record { number = n; place = q; skeleton = 0 }) =
-    cc in
+    let r : Refusal = record { number = m; place = p; skeleton = 0 } in
+    let s : Refusal = record { number = n; place = q; skeleton = 0 } in
+    let z : r ≡ s = cc in
     record { number = ap (λ r. r .number) z; place = ap (λ r. r .place) z }
 
 module _ (more : List ℕ) where

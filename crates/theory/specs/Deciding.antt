@@ -1,6 +1,6 @@
 -- Decisions joined.
 use mathlib.Core.Path.{_≡_, refl}
-use mathlib.Core.Bool.{Bool, true, false, true≢false}
+use mathlib.Core.Bool.{Bool, true, false}
 use mathlib.Core.Logic.{_↔_, _⊎_, inl, inr}
 use mathlib.Core.List.{List, [], _∷_, List·Memᴰ, List·Memᴰ·head, List·Memᴰ·tail, List·Memᴰ·not-nil, List·Memᴰ·cases-cons}
 use Prim.Native.Nat.{ℕ, zero, suc, _<_}
@@ -29,19 +29,9 @@ dec-both (yes p) (yes q) = yes (p, q)
 dec-both (yes p) (no n) = no (λ h. n (h .1))
 dec-both (no n) d = no (λ h. n (h .0))
 
--- what a decision that says yes has shown
 unfoldable pub says-yes : {P : Type 0} → Dec P → Bool
 says-yes (yes p) = true
 says-yes (no n) = false
-
-pub shown : {P : Type 0} (d : Dec P) → T (says-yes d) → P
-unfolding says-yes
-shown (yes p) h = p
-
-pub refuted : {P : Type 0} (d : Dec P) → says-yes d ≡ false → ¬ P
-unfolding says-yes
-refuted (yes p) e = absurd (true≢false e)
-refuted (no n) e = n
 
 -- Some and all members
 
@@ -163,8 +153,7 @@ module _ (P Q : ℕ → Type 0) where
       which = f .which;
       listed = List·Memᴰ·tail (f .listed);
       holds = f .holds;
-      lower =
-          lower-later (f .which) (λ k. q) (f .lower);
+      lower = lower-later (f .which) (λ k. q) (f .lower);
     })
     lowest-step (inl p) (inl f) = inl (lowest-pick f p (less y (f .which)))
     lowest-step (inl p) (inr g) =

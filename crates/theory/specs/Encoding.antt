@@ -276,8 +276,8 @@ read-to h (at-fault e f) t q = let z : _≡_ {A = ℕ} 0 1 = cc in absurd (omega
 read-to {s} {l} h (next {r} e f k) t q =
     let a = was-read s l f .allowed in
     let n = read-to (kept-after s h r a) k t q in
-    let m : encode-all (so-far (after s r)) ≡ encode-all (so-far s) ++ encode r = ap encode-all (one-more s h r a) ∙ encode-one
-    (so-far s) r in
+    let m : encode-all (so-far (after s r)) ≡ encode-all (so-far s) ++ encode r =
+    ap encode-all (one-more s h r a) ∙ encode-one (so-far s) r in
     record {
       state = n .state;
       kept = n .kept;

@@ -190,8 +190,7 @@ module _ (rows : List Row) (good : Good rows) (K : Skeleton ℕ) (ok : OnTable r
           heard = term rows u;
           at = at-means (term rows) K a;
           carries = c;
-          not-after =
-              λ k. b (before-meant (term rows) K k);
+          not-after = λ k. b (before-meant (term rows) K k);
         }
 
     pub of-early : (e : Early L (term rows t)) → Some EarlyAt (events K)
@@ -210,8 +209,7 @@ module _ (rows : List Row) (good : Good rows) (K : Skeleton ℕ) (ok : OnTable r
             reception = record {
               which = (e .node, recv u);
               listed = event-listed K b;
-              holds =
-                  l;
+              holds = l;
             };
           };
         }
@@ -243,8 +241,7 @@ module _ (rows : List Row) (good : Good rows) (K : Skeleton ℕ) (ok : OnTable r
         part = term rows (b .which);
         variable = b .holds .variable;
         occurs = b .holds .occurs;
-        in-no-event =
-            b .holds .in-no-event;
+        in-no-event = b .holds .in-no-event;
       })
       (λ u.
       let s = occurs-on rows good (u .occurs) (record { which = t; inside = h; means = refl }) in

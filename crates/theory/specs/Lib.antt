@@ -6,6 +6,7 @@ pub mod Find
 pub mod Places
 pub mod ListTests
 pub mod Upto
+pub mod RisingLists
 pub mod Deciding
 -- Messages and tables: inverses, parts, substitutions; equal numbers are equal terms; the terms of a table are closed.
 pub mod Inverses
@@ -19,25 +20,25 @@ pub mod OnSheet
 pub mod Rules
 pub mod RowRules
 pub mod Locality
-pub mod Printed
 pub mod Reach
 pub mod Carrying
 pub mod Occurring
 pub mod Precedence
--- Skeletons: their events, origins, what is derivable before a reception, refusals 10 to 14.
+-- Skeletons: their events, origins and first appearances, what is derivable before a reception, refusals 10 to 14.
 pub mod Happenings
+pub mod Skeletons
 pub mod OnTable
 pub mod Origins
-pub mod Skeletons
-pub mod Realizing
 pub mod Appearing
+pub mod Realizing
+pub mod Printed
 pub mod Faults
 -- Strand maps: one substitution at most, the rules decided, the list.
 pub mod MapLaws
 pub mod Coherent
 pub mod Matching
 pub mod MapTests
--- From bytes to a verdict: one outcome of reading, one verdict, and what an accepted sheet is.
+-- From bytes to a verdict: one outcome of reading, exactly the encodings, one verdict, and what an accepted sheet is.
 pub mod Records
 pub mod RecordBytes
 pub mod Standing

@@ -1,8 +1,7 @@
 -- There is a list of the maps of an accepted sheet.
 use mathlib.Core.Path.{_≡_, refl, _∙_, sym as back}
-use mathlib.Core.Bool.{Bool, true, false, cond}
 use mathlib.Core.Logic.{⊎-elim}
-use mathlib.Core.List.{List, [], _∷_, _++_, map, List·Memᴰ, List·Memᴰ·head, List·Memᴰ·tail, List·Memᴰ·not-nil, List·Memᴰ·append-cases, Memᴰ·of-map}
+use mathlib.Core.List.{List, [], _∷_, map, List·Memᴰ, List·Memᴰ·not-nil, List·Memᴰ·append-cases, Memᴰ·of-map}
 use Prim.Native.Nat.{ℕ, zero, suc, _*_, _<_}
 use native.Mathlib.Omega.{arith}
 use lib.Dec.{leb, leb→le, le→leb}
@@ -15,7 +14,7 @@ use Rattle.model.specs.Rising.{Rising, none, more, InDictionary, first, later}
 use Rattle.model.specs.Maps.{IsStrandMap, TheMaps}
 use Rattle.model.specs.Answers.{HasSkeletons, end-to-end, over, ListRoom, SaysList}
 use Rattle.theory.specs.GoodTable.{Good}
-use Rattle.theory.specs.ListTests.{keep, kept}
+use Rattle.theory.specs.ListTests.{kept}
 use Rattle.theory.specs.MapLaws.{Rule1, AtomsOccur, skeleton-atoms}
 use Rattle.theory.specs.MapTests.{each-first, candidates, map-test, maps, IsListed, listed-iff}
 use Rattle.theory.specs.Deciding.{dec-of, dec-to, dec-both}
@@ -23,31 +22,16 @@ use Rattle.theory.specs.Judgement.{Sound}
 use Rattle.theory.specs.NoSecond.{maps-one}
 use Rattle.theory.specs.Answering.{Meets, Had, had, meets-skeleton}
 use Rattle.theory.specs.OnTable.{OnTable}
-
--- Rising
-
-module _ {A : Type 0} (before : A → A → Type 0) where
-  rising-append : (l m : List A) → Rising before l → Rising before m → ((x y : A) → List·Memᴰ x l → List·Memᴰ y m → before x y)
-      → Rising before (l ++ m)
-  rising-append [] m r s f = s
-  rising-append (x ∷ l) m (more h r) s f =
-      more (λ y q. ⊎-elim (h y) (λ k. f x y (List·Memᴰ·head refl) k) (List·Memᴰ·append-cases l q))
-      (rising-append l m r s (λ a b p q. f a b (List·Memᴰ·tail p) q))
-
-  rising-keep : (p : A → Bool) (l : List A) → Rising before l → Rising before (keep p l)
-  unfolding keep
-  rising-keep p [] r = none
-  rising-keep p (x ∷ l) (more h r) = go (p x) (rising-keep p l r)
-    where
-      go : (b : Bool) → Rising before (keep p l) → Rising before (cond b (x ∷ keep p l) (keep p l))
-      go true s = more (λ y q. h y (kept p l y q .0)) s
-      go false s = s
+use Rattle.theory.specs.RisingLists.{rising-append, rising-keep}
 
 rising-longer : (b : ℕ) (l : List (List ℕ)) → Rising InDictionary l → Rising InDictionary (map (λ m. b ∷ m) l)
 rising-longer b [] r = none
 rising-longer b (x ∷ l) (more h r) =
-    more (λ y q. let (m, k, e) = Memᴰ·of-map (λ m. b ∷ m) l q in let d : InDictionary (b ∷ x) (b ∷ m) = later (h m k) in rw e
-    at d) (rising-longer b l r)
+    more
+    (λ y q.
+    let (m, k, e) = Memᴰ·of-map (λ m. b ∷ m) l q in
+    let d : InDictionary (b ∷ x) (b ∷ m) = later (h m k) in
+    rw e at d) (rising-longer b l r)
 
 record Starts (b : ℕ) (x : List ℕ) : Type 0 where
   head : ℕ

@@ -2,8 +2,8 @@
 use mathlib.Core.Path.{_≡_, refl, ap, _∙_, sym as back}
 use mathlib.Core.Bool.{true, false}
 use mathlib.Core.Logic.{_↔_}
-use mathlib.Core.List.{List, [], _∷_}
-use Prim.Native.Nat.{ℕ, zero, suc, _+_, _≤_, _<_}
+use mathlib.Core.List.{List}
+use Prim.Native.Nat.{ℕ, suc, _≤_, _<_}
 use native.Mathlib.Omega.{arith}
 use lib.Dec.{T, eqb, eqb→eq, eqb-refl, leb, leb→le, le→leb}
 use lib.ListN.{length, getD, length-map}
@@ -32,6 +32,8 @@ use Rattle.theory.specs.NoSecond.{upto-less}
 use Rattle.theory.specs.Answering.{Told, Had, had}
 use Rattle.theory.specs.Listing.{meets-skeletons}
 use Rattle.theory.specs.OnTable.{OnTable}
+use Rattle.model.specs.Lists.{upto}
+use Rattle.theory.specs.Upto.{length-upto, upto-at}
 
 -- The image of a part of a term whose image is on the sheet is on the sheet
 
@@ -58,25 +60,7 @@ module _ (rows : List Row) (good : Good rows) (σ : Subst) where
   part-image (inside in-ltk-left o) s = part-image o (occurs-on rows good (inside in-ltk-left here) s)
   part-image (inside in-ltk-right o) s = part-image o (occurs-on rows good (inside in-ltk-right here) s)
 
--- A list from a function
-
-unfoldable pub table : (ℕ → ℕ) → ℕ → ℕ → List ℕ
-table f i zero = []
-table f i (suc m) = f i ∷ table f (suc i) m
-
-table-length : (f : ℕ → ℕ) (i m : ℕ) → length (table f i m) ≡ m
-unfolding table
-table-length f i zero = refl
-table-length f i (suc m) = ap suc (table-length f (suc i) m)
-
-table-at : (f : ℕ → ℕ) (i m j p d : ℕ) → p ≡ i + j → j < m → getD (table f i m) j d ≡ f p
-unfolding table
-table-at f i zero j p d e h = absurd (omega arith)
-table-at f i (suc m) zero p d e h = let q : p ≡ i = omega arith in rw q refl
-table-at f i (suc m) (suc j) p d e h = table-at f (suc i) m j p d (omega arith) (omega arith)
-
-module _ (rows : List Row) (good : Good rows) (A B : Skeleton ℕ) (okA : OnTable rows A) (okB : OnTable rows B)
-    (occur : AtomsOccur (means (term rows) A)) where
+module _ (rows : List Row) (good : Good rows) (A B : Skeleton ℕ) (okA : OnTable rows A) (okB : OnTable rows B) where
   abbrev A′ : Skeleton Term
   A′ = means (term rows) A
 
@@ -102,12 +86,12 @@ module _ (rows : List Row) (good : Good rows) (A B : Skeleton ℕ) (okA : OnTabl
     image-if i (no n) = 255
 
     unfoldable pub images-of : List ℕ
-    unfolding table image-if less
-    images-of = table (λ i. image-if i (less i (length rows))) 0 (length rows)
+    unfolding upto image-if less
+    images-of = upto (length rows) (λ i. image-if i (less i (length rows)))
 
     images-full : length images-of ≡ length rows
     unfolding images-of
-    images-full = table-length (λ i. image-if i (less i (length rows))) 0 (length rows)
+    images-full = length-upto (length rows) (λ i. image-if i (less i (length rows)))
 
     shown-yes : {P : Type 0} (n : ℕ) (d : Dec P) → P → shown-as n d ≡ n
     unfolding shown-as
@@ -130,7 +114,7 @@ module _ (rows : List Row) (good : Good rows) (A B : Skeleton ℕ) (okA : OnTabl
     unfolding images-of
     image-at i h =
         let (l, e) = at-image i h (less i (length rows)) in
-        (l, table-at (λ i. image-if i (less i (length rows))) 0 (length rows) i i 255 (omega arith) h ∙ e)
+        (l, upto-at (length rows) (λ i. image-if i (less i (length rows))) 255 i h ∙ e)
 
   module _ (bytes : List ℕ) where
     abbrev f : ℕ → ℕ
@@ -241,129 +225,126 @@ module _ (rows : List Row) (good : Good rows) (A B : Skeleton ℕ) (okA : OnTabl
         record {
           strands = λ h. absurd (omega arith);
           directions = λ h. absurd (omega arith);
-          messages = λ h. absurd
-              (omega arith);
+          messages = λ h. absurd (omega arith);
           order = λ h. absurd (omega arith);
           non = λ h. absurd (omega arith);
           uniq = λ h. absurd (omega arith);
         }
 
-    module _ (r₁ : OneByteEach A′ B′ bytes) where
-      pub kept₁ : Kept A′ B′ bytes 1 plain
-      kept₁ =
-          record {
-            strands = λ h. r₁;
-            directions = λ h. absurd (omega arith);
-            messages = λ h. absurd (omega arith);
-            order = λ h.
-                absurd (omega arith);
-            non = λ h. absurd (omega arith);
-            uniq = λ h. absurd (omega arith);
-          }
-
-      module _ (r₂ : Rule2 A′ B′ f) where
-        pub kept₂ : Kept A′ B′ bytes 2 plain
-        kept₂ =
+    -- The rules one after another: that 5 and 6 do not hang on the substitution rests on where the atoms' variables occur
+    module _ (occur : AtomsOccur A′) where
+      module _ (r₁ : OneByteEach A′ B′ bytes) where
+        pub kept₁ : Kept A′ B′ bytes 1 plain
+        kept₁ =
             record {
               strands = λ h. r₁;
-              directions = λ h. r₂;
+              directions = λ h. absurd (omega arith);
               messages = λ h. absurd (omega arith);
-              order = λ h. absurd
-                  (omega arith);
+              order = λ h. absurd (omega arith);
               non = λ h. absurd (omega arith);
               uniq = λ h. absurd (omega arith);
             }
 
-        module _ (r₃ : Rule3 A′ B′ f the) where
-          pub kept₃ : Kept A′ B′ bytes 3 the
-          kept₃ =
+        module _ (r₂ : Rule2 A′ B′ f) where
+          pub kept₂ : Kept A′ B′ bytes 2 plain
+          kept₂ =
               record {
                 strands = λ h. r₁;
                 directions = λ h. r₂;
-                messages = λ h. r₃;
+                messages = λ h. absurd (omega arith);
                 order = λ h. absurd (omega arith);
-                non = λ h.
-                    absurd (omega arith);
+                non = λ h. absurd (omega arith);
                 uniq = λ h. absurd (omega arith);
               }
 
-          module _ (r₄ : Rule4 A′ B′ f) where
-            pub kept₄ : Kept A′ B′ bytes 4 the
-            kept₄ =
+          module _ (r₃ : Rule3 A′ B′ f the) where
+            pub kept₃ : Kept A′ B′ bytes 3 the
+            kept₃ =
                 record {
                   strands = λ h. r₁;
                   directions = λ h. r₂;
                   messages = λ h. r₃;
-                  order = λ h. r₄;
-                  non = λ h. absurd
-                      (omega arith);
+                  order = λ h. absurd (omega arith);
+                  non = λ h. absurd (omega arith);
                   uniq = λ h. absurd (omega arith);
                 }
 
-            -- rules 5 and 6 do not hang on the substitution
-            pub upto₅ : Upto A′ B′ bytes 5 → Rule5 A′ B′ f the
-            unfolding Rule5
-            upto₅ u t k =
-                rw (atoms-agree A′ B′ f the (u .σ) r₂ r₃ (u .kept .messages (omega arith)) t (occur .non t k))
-                (u .kept .non (omega arith) t k)
+            module _ (r₄ : Rule4 A′ B′ f) where
+              pub kept₄ : Kept A′ B′ bytes 4 the
+              kept₄ =
+                  record {
+                    strands = λ h. r₁;
+                    directions = λ h. r₂;
+                    messages = λ h. r₃;
+                    order = λ h. r₄;
+                    non = λ h. absurd (omega arith);
+                    uniq = λ h. absurd (omega arith);
+                  }
 
-            pub upto₆ : Upto A′ B′ bytes 6 → Rule6 A′ B′ f the
-            unfolding Rule6
-            upto₆ u t k =
-                rw (atoms-agree A′ B′ f the (u .σ) r₂ r₃ (u .kept .messages (omega arith)) t (occur .uniq t k))
-                (u .kept .uniq (omega arith) t k)
+              -- rules 5 and 6 do not hang on the substitution
+              pub upto₅ : Upto A′ B′ bytes 5 → Rule5 A′ B′ f the
+              unfolding Rule5
+              upto₅ u t k =
+                  rw (atoms-agree A′ B′ f the (u .σ) r₂ r₃ (u .kept .messages (omega arith)) t (occur .non t k))
+                  (u .kept .non (omega arith) t k)
 
-            unfoldable pub judge₆ : Rule5 A′ B′ f the → Dec (Rule6 A′ B′ f the) → MapJudged
-            judge₆ r₅ (yes r₆) =
-                holds (record {
-                  strands = λ h. r₁;
-                  directions = λ h. r₂;
-                  messages = λ h. r₃;
-                  order = λ h. r₄;
-                  non = λ h. r₅;
-                  uniq = λ h. r₆;
-                }) (images-are the r₂ r₃)
-            judge₆ r₅ (no n) =
-                broken 6 (first-broken 5 (omega arith) (record {
-                  strands = λ h. r₁;
-                  directions = λ h. r₂;
-                  messages = λ h. r₃;
-                  order = λ h. r₄;
-                  non = λ h. r₅;
-                  uniq = λ h. absurd (omega arith);
-                }) (λ u. n (upto₆ u)))
+              pub upto₆ : Upto A′ B′ bytes 6 → Rule6 A′ B′ f the
+              unfolding Rule6
+              upto₆ u t k =
+                  rw (atoms-agree A′ B′ f the (u .σ) r₂ r₃ (u .kept .messages (omega arith)) t (occur .uniq t k))
+                  (u .kept .uniq (omega arith) t k)
 
-            unfoldable pub judge₅ : Dec (Rule5 A′ B′ f the) → MapJudged
-            unfolding judge₆ dec₆
-            judge₅ (no n) = broken 5 (first-broken 4 (omega arith) kept₄ (λ u. n (upto₅ u)))
-            judge₅ (yes r₅) = judge₆ r₅ dec₆
+              unfoldable pub judge₆ : Rule5 A′ B′ f the → Dec (Rule6 A′ B′ f the) → MapJudged
+              judge₆ r₅ (yes r₆) =
+                  holds (record {
+                    strands = λ h. r₁;
+                    directions = λ h. r₂;
+                    messages = λ h. r₃;
+                    order = λ h. r₄;
+                    non = λ h. r₅;
+                    uniq = λ h. r₆;
+                  }) (images-are the r₂ r₃)
+              judge₆ r₅ (no n) =
+                  broken 6 (first-broken 5 (omega arith) (record {
+                    strands = λ h. r₁;
+                    directions = λ h. r₂;
+                    messages = λ h. r₃;
+                    order = λ h. r₄;
+                    non = λ h. r₅;
+                    uniq = λ h. absurd (omega arith);
+                  }) (λ u. n (upto₆ u)))
 
-          unfoldable pub judge₄ : Dec (Rule4 A′ B′ f) → MapJudged
-          unfolding judge₅ dec₅
-          judge₄ (no n) = broken 4 (first-broken 3 (omega arith) kept₃ (λ u. n (u .kept .order (omega arith))))
-          judge₄ (yes r₄) = judge₅ r₄ dec₅
+              unfoldable pub judge₅ : Dec (Rule5 A′ B′ f the) → MapJudged
+              unfolding judge₆ dec₆
+              judge₅ (no n) = broken 5 (first-broken 4 (omega arith) kept₄ (λ u. n (upto₅ u)))
+              judge₅ (yes r₅) = judge₆ r₅ dec₆
 
-        pub no-substitution : ¬ Rule3 A′ B′ f the → ¬ Upto A′ B′ bytes 3
-        no-substitution n u = n (served r₂ (serving r₂ (record { σ = u .σ; rule = u .kept .messages (omega arith) })))
+            unfoldable pub judge₄ : Dec (Rule4 A′ B′ f) → MapJudged
+            unfolding judge₅ dec₅
+            judge₄ (no n) = broken 4 (first-broken 3 (omega arith) kept₃ (λ u. n (u .kept .order (omega arith))))
+            judge₄ (yes r₄) = judge₅ r₄ dec₅
 
-        unfoldable pub judge₃ : Dec (Rule3 A′ B′ f the) → MapJudged
-        unfolding judge₄ dec₄
-        judge₃ (no n) = broken 3 (first-broken 2 (omega arith) kept₂ (no-substitution n))
-        judge₃ (yes r₃) = judge₄ r₃ (dec₄ r₁)
+          pub no-substitution : ¬ Rule3 A′ B′ f the → ¬ Upto A′ B′ bytes 3
+          no-substitution n u = n (served r₂ (serving r₂ (record { σ = u .σ; rule = u .kept .messages (omega arith) })))
 
-      unfoldable pub judge₂ : Dec (Rule2 A′ B′ f) → MapJudged
-      unfolding judge₃ dec₃
-      judge₂ (no n) = broken 2 (first-broken 1 (omega arith) kept₁ (λ u. n (u .kept .directions (omega arith))))
-      judge₂ (yes r₂) = judge₃ r₂ (dec₃ r₂)
+          unfoldable pub judge₃ : Dec (Rule3 A′ B′ f the) → MapJudged
+          unfolding judge₄ dec₄
+          judge₃ (no n) = broken 3 (first-broken 2 (omega arith) kept₂ (no-substitution n))
+          judge₃ (yes r₃) = judge₄ r₃ (dec₄ r₁)
 
-    unfoldable pub judge₁ : Dec (OneByteEach A′ B′ bytes) → MapJudged
-    unfolding judge₂ dec₂
-    judge₁ (no n) = broken 1 (first-broken 0 (omega arith) kept₀ (λ u. n (u .kept .strands (omega arith))))
-    judge₁ (yes r₁) = judge₂ r₁ dec₂
+        unfoldable pub judge₂ : Dec (Rule2 A′ B′ f) → MapJudged
+        unfolding judge₃ dec₃
+        judge₂ (no n) = broken 2 (first-broken 1 (omega arith) kept₁ (λ u. n (u .kept .directions (omega arith))))
+        judge₂ (yes r₂) = judge₃ r₂ (dec₃ r₂)
 
-    unfoldable pub judge-map : MapJudged
-    unfolding judge₁ dec₁
-    judge-map = judge₁ dec₁
+      unfoldable pub judge₁ : Dec (OneByteEach A′ B′ bytes) → MapJudged
+      unfolding judge₂ dec₂
+      judge₁ (no n) = broken 1 (first-broken 0 (omega arith) kept₀ (λ u. n (u .kept .strands (omega arith))))
+      judge₁ (yes r₁) = judge₂ r₁ dec₂
+
+      unfoldable pub judge-map : MapJudged
+      unfolding judge₁ dec₁
+      judge-map = judge₁ dec₁
 
 -- The question
 
@@ -392,22 +373,21 @@ module _ (source target : ℕ) (bytes lent : List ℕ) (s : Sheet) (sound : Soun
   unfolding meant
   target-is = ap (λ rows. means (term rows) (x .1 .skeleton)) same-rows
 
-  unfoldable pub map-told : MapJudged (x .0 .rows) good-rows (x .0 .skeleton) (x .1 .skeleton) source-on target-on source-occur
-      bytes → Told (SaysMap source target bytes lent) x
+  unfoldable pub map-told : MapJudged (x .0 .rows) good-rows (x .0 .skeleton) (x .1 .skeleton) source-on target-on bytes
+      → Told (SaysMap source target bytes lent) x
   unfolding images-of found asked over meant
   map-told (broken k b) =
       let t : FirstBroken (meant (x .0)) (meant (x .1)) bytes k = rw target-is b in
       record { answer = breaks k; after = lent; is = no-map t }
   map-told (holds k i) =
       let σ : Subst = found (x .0 .rows) (asked (x .0 .rows) (x .0 .skeleton) (x .1 .skeleton) (λ s. getD bytes s 0)) in
-      let images : List ℕ = images-of (x .0 .rows) good-rows (x .0 .skeleton) (x .1 .skeleton) source-on target-on source-occur
-      σ in
+      let images : List ℕ = images-of (x .0 .rows) good-rows (x .0 .skeleton) (x .1 .skeleton) source-on target-on σ in
       let t : Kept (meant (x .0)) (meant (x .1)) bytes 6 σ = rw target-is k in
       record { answer = is-map; after = over images lent; is = yes-map t i }
 
   unfoldable pub told-map : Told (SaysMap source target bytes lent) x
   unfolding map-told judge-map
-  told-map = map-told (judge-map (x .0 .rows) good-rows (x .0 .skeleton) (x .1 .skeleton) source-on target-on source-occur bytes)
+  told-map = map-told (judge-map (x .0 .rows) good-rows (x .0 .skeleton) (x .1 .skeleton) source-on target-on bytes source-occur)
 
 module _ (source target : ℕ) (bytes lent : List ℕ) (s : Sheet) (sound : Sound s) where
   unfoldable pub image-room : (x : Drawing × Drawing) → HasSkeletons source target s x

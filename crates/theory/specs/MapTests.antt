@@ -22,7 +22,7 @@ use Rattle.theory.specs.GoodTable.{Good}
 use Rattle.theory.specs.Precedence.{code, Low, Edge, Leads, stop, step, edges, before-edge, edge-leads}
 use Rattle.theory.specs.Happenings.{Happening, events, event-listed, listed-event, at-means, at-meant, before-means, before-meant, message-means}
 use Rattle.theory.specs.ListTests.{some-found, finds-some, all-of, all-each, each-all, keep, keeps, kept, every-true, true-every}
-use Rattle.theory.specs.Matching.{Wish, Granted, alike, alike-iff, found, serves, serves-granted, granted-serves}
+use Rattle.theory.specs.Matching.{Wish, Granted, same-terms, same-terms-iff, found, serves, serves-granted, granted-serves}
 use Rattle.theory.specs.MapLaws.{Rule1, IsMap, AtomsOccur, atoms-agree}
 use Rattle.theory.specs.OnTable.{OnTable, same-node, before-iff, before, same-node-true, same-node-refl}
 use Rattle.theory.specs.Origins.{is-origin, origin-of, origin-found}
@@ -93,8 +93,8 @@ module _ (rows : List Row) (A B : Skeleton ℕ) (f : ℕ → ℕ) where
 
   module _ (σ : Subst) where
     unfoldable pub image-in : List ℕ → ℕ → Bool
-    unfolding some-of alike apply term
-    image-in l t = some-of (λ j. alike (apply σ (term rows t)) (term rows j)) l
+    unfolding some-of same-terms apply term
+    image-in l t = some-of (λ j. same-terms (apply σ (term rows t)) (term rows j)) l
 
     unfoldable pub test₅ : Bool
     unfolding all-of image-in
@@ -107,8 +107,8 @@ module _ (rows : List Row) (A B : Skeleton ℕ) (f : ℕ → ℕ) where
         not (is-origin rows A t x) || some-of (λ y. same-node (y .0) (move f (x .0)) && is-origin rows B j y) (events B)
 
     unfoldable pub uniq-kept : ℕ → ℕ → Bool
-    unfolding alike apply term all-of origin-kept events
-    uniq-kept t j = alike (apply σ (term rows t)) (term rows j) && all-of (origin-kept t j) (events A)
+    unfolding same-terms apply term all-of origin-kept events
+    uniq-kept t j = same-terms (apply σ (term rows t)) (term rows j) && all-of (origin-kept t j) (events A)
 
     unfoldable pub test₆ : Bool
     unfolding all-of some-of uniq-kept
@@ -219,10 +219,10 @@ module _ (rows : List Row) (good : Good rows) (A B : Skeleton ℕ) (okA : OnTabl
     image-iff : (l : List ℕ) (t : ℕ) → T (image-in rows A B f σ l t) ↔ List·Memᴰ (apply σ (term rows t)) (map (term rows) l)
     unfolding image-in
     image-iff l t = (
-      λ h. let (j, m, q) = some-found (λ j. alike (apply σ (term rows t)) (term rows j)) l h in
-          rw (alike-iff (apply σ (term rows t)) (term rows j) .0 q) (Memᴰ·map (term rows) m),
-      λ m. let (j, k, q) = Memᴰ·of-map (term rows) l m in finds-some (λ j. alike (apply σ (term rows t)) (term rows j)) l k
-          (alike-iff _ _ .1 (back q)),
+      λ h. let (j, m, q) = some-found (λ j. same-terms (apply σ (term rows t)) (term rows j)) l h in
+          rw (same-terms-iff (apply σ (term rows t)) (term rows j) .0 q) (Memᴰ·map (term rows) m),
+      λ m. let (j, k, q) = Memᴰ·of-map (term rows) l m in finds-some (λ j. same-terms (apply σ (term rows t)) (term rows j)) l k
+          (same-terms-iff _ _ .1 (back q)),
     )
 
     pub rule₅-iff : T (test₅ rows A B f σ) ↔ Rule5 A′ B′ f σ
@@ -263,15 +263,15 @@ module _ (rows : List Row) (good : Good rows) (A B : Skeleton ℕ) (okA : OnTabl
           let (i, k, q) = Memᴰ·of-map (term rows) (A .uniq) m in
           let (j, l, r) = some-found (uniq-kept rows A B f σ i) (B .uniq)
           (all-each (λ t. some-of (uniq-kept rows A B f σ t) (B .uniq)) (A .uniq) h i k) in
-          let (s, v) = both (alike (apply σ (term rows i)) (term rows j)) _ r in
-          let z : apply σ t ≡ term rows j = ap (apply σ) (back q) ∙ alike-iff (apply σ (term rows i)) (term rows j) .0 s in
+          let (s, v) = both (same-terms (apply σ (term rows i)) (term rows j)) _ r in
+          let z : apply σ t ≡ term rows j = ap (apply σ) (back q) ∙ same-terms-iff (apply σ (term rows i)) (term rows j) .0 s in
           let g : KeepsOrigins t (term rows j) = rw q at (origins-kept i j (okA .uniqs i k) (okB .uniqs j l) .0 v) in
           rw z (Memᴰ·map (term rows) l, g),
       λ r. each-all (λ t. some-of (uniq-kept rows A B f σ t) (B .uniq)) (A .uniq) λ i k.
           let (m, g) = r (term rows i) (Memᴰ·map (term rows) k) in
           let (j, l, q) = Memᴰ·of-map (term rows) (B .uniq) m in
           finds-some (uniq-kept rows A B f σ i) (B .uniq) l
-          (pair-up (alike (apply σ (term rows i)) (term rows j)) _ (alike-iff _ _ .1 (back q))
+          (pair-up (same-terms (apply σ (term rows i)) (term rows j)) _ (same-terms-iff _ _ .1 (back q))
           (origins-kept i j (okA .uniqs i k) (okB .uniqs j l) .1 (rw (← q) at g))),
     )
 

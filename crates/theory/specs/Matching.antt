@@ -12,7 +12,7 @@ use lib.ListN.{length, getD, set, replicate, length-set, length-replicate}
 use lib.Seq.{getD-set-same, getD-set-other}
 use Rattle.model.specs.Term.{Term, atom-same, same, flip, inv}
 use Rattle.model.specs.Subst.{Subst, apply, on-atom, on-sym, on-asym, turned}
-use Rattle.model.specs.Table.{Row, Tag, Mesg, Text, Datum, Name, Skey, Akey, Pubk, Inv, Ltk, Pair, Enc, Hash, row, name-of, meaning, terms-after, term}
+use Rattle.model.specs.Table.{Row, Tag, Mesg, Text, Datum, Name, Skey, Akey, Pubk, Inv, Ltk, Pair, Enc, Hash, row, name-of, meaning, terms-after, term, first, second}
 use Rattle.theory.specs.Each.{Each, each-nil, each-cons}
 use Rattle.theory.specs.Inverses.{inv-inv}
 use Rattle.theory.specs.GoodTable.{Good, Earlier}
@@ -22,50 +22,20 @@ use Rattle.theory.specs.Reach.{inverse-at, inverse-law}
 use Rattle.theory.specs.Coherent.{Fits, Coherent, text-of, sym-of, asym-of, image, reading, images-of, images-read, images-fit}
 use Rattle.theory.specs.Places.{not-there}
 
-abbrev pub Images : Type 0
-Images = List (Option ℕ)
+abbrev pub ImageList : Type 0
+ImageList = List (Option ℕ)
 
-abbrev pub img : Images → ℕ → Option ℕ
+abbrev pub img : ImageList → ℕ → Option ℕ
 img is t = getD is t none
 
 -- The computation: from the highest term down, a term's image gives its parts theirs; the first wish counts
-
-unfoldable pub arg₁ : Row → ℕ
-arg₁ (Tag n) = n
-arg₁ (Mesg n) = n
-arg₁ (Text n) = n
-arg₁ (Datum n) = n
-arg₁ (Name n) = n
-arg₁ (Skey n) = n
-arg₁ (Akey n) = n
-arg₁ (Pubk a) = a
-arg₁ (Inv a) = a
-arg₁ (Ltk a b) = a
-arg₁ (Pair a b) = a
-arg₁ (Enc a b) = a
-arg₁ (Hash a) = a
-
-unfoldable pub arg₂ : Row → ℕ
-arg₂ (Tag n) = 0
-arg₂ (Mesg n) = 0
-arg₂ (Text n) = 0
-arg₂ (Datum n) = 0
-arg₂ (Name n) = 0
-arg₂ (Skey n) = 0
-arg₂ (Akey n) = 0
-arg₂ (Pubk a) = 0
-arg₂ (Inv a) = 0
-arg₂ (Ltk a b) = b
-arg₂ (Pair a b) = b
-arg₂ (Enc a b) = b
-arg₂ (Hash a) = 0
 
 abbrev pub Wish : Type 0
 Wish = ℕ × ℕ
 
 module _ (rows : List Row) where
   unfoldable pub parts : Row → ℕ → List Wish
-  unfolding arg₁ arg₂ inverse-at
+  unfolding first second inverse-at
   parts (Tag n) u = []
   parts (Mesg n) u = []
   parts (Text n) u = []
@@ -73,33 +43,33 @@ module _ (rows : List Row) where
   parts (Name n) u = []
   parts (Skey n) u = []
   parts (Akey n) u = []
-  parts (Pubk a) u = (a, arg₁ (row rows u)) ∷ []
+  parts (Pubk a) u = (a, first (row rows u)) ∷ []
   parts (Inv a) u = (a, inverse-at rows u) ∷ []
-  parts (Ltk a b) u = (a, arg₁ (row rows u)) ∷ (b, arg₂ (row rows u)) ∷ []
-  parts (Pair a b) u = (a, arg₁ (row rows u)) ∷ (b, arg₂ (row rows u)) ∷ []
-  parts (Enc a b) u = (a, arg₁ (row rows u)) ∷ (b, arg₂ (row rows u)) ∷ []
-  parts (Hash a) u = (a, arg₁ (row rows u)) ∷ []
+  parts (Ltk a b) u = (a, first (row rows u)) ∷ (b, second (row rows u)) ∷ []
+  parts (Pair a b) u = (a, first (row rows u)) ∷ (b, second (row rows u)) ∷ []
+  parts (Enc a b) u = (a, first (row rows u)) ∷ (b, second (row rows u)) ∷ []
+  parts (Hash a) u = (a, first (row rows u)) ∷ []
 
   unfoldable pub fill : Option ℕ → ℕ → Option ℕ
   fill none u = some u
   fill (some v) u = some v
 
-  unfoldable pub put : List Wish → Images → Images
+  unfoldable pub put : List Wish → ImageList → ImageList
   unfolding fill
   put [] is = is
   put (w ∷ ws) is = put ws (set is (w .0) (fill (img is (w .0)) (w .1)))
 
-  unfoldable pub visit : ℕ → Option ℕ → Images → Images
+  unfoldable pub visit : ℕ → Option ℕ → ImageList → ImageList
   unfolding parts put
   visit t none is = is
   visit t (some u) is = put (parts (row rows t) u) is
 
-  unfoldable pub descend : ℕ → Images → Images
+  unfoldable pub descend : ℕ → ImageList → ImageList
   unfolding visit
   descend zero is = is
   descend (suc t) is = descend t (visit t (img is t) is)
 
-  unfoldable pub images : List Wish → Images
+  unfoldable pub images : List Wish → ImageList
   unfolding descend put
   images asked = descend (length rows) (put asked (replicate (length rows) none))
 
@@ -112,10 +82,10 @@ module _ (rows : List Row) (good : Good rows) (σ : Subst) where
     pub to : w .1 < length rows
     pub is : apply σ (term rows (w .0)) ≡ term rows (w .1)
 
-  Right : Images → Type 0
+  Right : ImageList → Type 0
   Right is = (length is ≡ length rows) × ((t u : ℕ) → img is t ≡ some u → Granted (t, u))
 
-  set-right : (is : Images) (w : Wish) → Right is → Granted w → Right (set is (w .0) (fill rows (img is (w .0)) (w .1)))
+  set-right : (is : ImageList) (w : Wish) → Right is → Granted w → Right (set is (w .0) (fill rows (img is (w .0)) (w .1)))
   unfolding Right fill
   set-right is w r g = (
     length-set is (w .0) _ ∙ r .0,
@@ -132,7 +102,7 @@ module _ (rows : List Row) (good : Good rows) (σ : Subst) where
           (rw (r .0) (g .from))) ∙ rw q at e))
       go t u e (no q) = r .1 t u (back (getD-set-other is (w .0) t (fill rows (img is (w .0)) (w .1)) none q) ∙ e)
 
-  put-right : (ws : List Wish) (is : Images) → Right is → Each Granted ws → Right (put rows ws is)
+  put-right : (ws : List Wish) (is : ImageList) → Right is → Each Granted ws → Right (put rows ws is)
   unfolding put
   put-right [] is r g = r
   put-right (w ∷ ws) is r g = put-right ws _ (set-right is w r (g w (List·Memᴰ·head refl))) (λ v m. g v (List·Memᴰ·tail m))
@@ -145,7 +115,7 @@ module _ (rows : List Row) (good : Good rows) (σ : Subst) where
 
   row-parts : (r : Row) (t u : ℕ) → t < length rows → u < length rows → Earlier t r → Fits rows (images-of rows σ) r u
       → Each Granted (parts rows r u)
-  unfolding parts Fits Earlier arg₁ arg₂
+  unfolding parts Fits Earlier first second
   row-parts (Tag n) t u h k b f = each-nil Granted
   row-parts (Mesg n) t u h k b f = each-nil Granted
   row-parts (Text n) t u h k b f = each-nil Granted
@@ -181,12 +151,12 @@ module _ (rows : List Row) (good : Good rows) (σ : Subst) where
   parts-granted t u g = row-parts (row rows t) t u (g .from) (g .to) (good .earlier t (g .from))
       (images-fit rows good σ t u (g .from) (g .to) (g .is))
 
-  visit-right : (t : ℕ) (o : Option ℕ) (is : Images) → img is t ≡ o → Right is → Right (visit rows t o is)
+  visit-right : (t : ℕ) (o : Option ℕ) (is : ImageList) → img is t ≡ o → Right is → Right (visit rows t o is)
   unfolding visit Right
   visit-right t none is e r = r
   visit-right t (some u) is e r = put-right (parts rows (row rows t) u) is r (parts-granted t u (r .1 t u e))
 
-  descend-right : (t : ℕ) (is : Images) → Right is → Right (descend rows t is)
+  descend-right : (t : ℕ) (is : ImageList) → Right is → Right (descend rows t is)
   unfolding descend
   descend-right zero is r = r
   descend-right (suc t) is r = descend-right t _ (visit-right t (img is t) is refl r)
@@ -194,7 +164,7 @@ module _ (rows : List Row) (good : Good rows) (σ : Subst) where
 -- The parts of what has an image have one
 
 module _ (rows : List Row) where
-  Has : Images → ℕ → Type 0
+  Has : ImageList → ℕ → Type 0
   Has is a = (v : ℕ) × (img is a ≡ some v)
 
   filled-keeps : (o : Option ℕ) (u : ℕ) {v : ℕ} → o ≡ some v → fill rows o u ≡ some v
@@ -207,8 +177,8 @@ module _ (rows : List Row) where
   filled-has none u = (u, refl)
   filled-has (some w) u = (w, refl)
 
-  module _ (is : Images) (a u : ℕ) (h : a < length is) where
-    abbrev next : Images
+  module _ (is : ImageList) (a u : ℕ) (h : a < length is) where
+    abbrev next : ImageList
     next = set is a (fill rows (img is a) u)
 
     next-keeps : (t v : ℕ) → img is t ≡ some v → img next t ≡ some v
@@ -222,10 +192,10 @@ module _ (rows : List Row) where
     unfolding Has
     next-has = let (v, e) = filled-has (img is a) u in (v, getD-set-same is a (fill rows (img is a) u) none h ∙ e)
 
-  Within : Images → Wish → Type 0
+  Within : ImageList → Wish → Type 0
   Within is w = w .0 < length is
 
-  put-keeps : (ws : List Wish) (is : Images) → Each (Within is) ws → (t v : ℕ) → img is t ≡ some v
+  put-keeps : (ws : List Wish) (is : ImageList) → Each (Within is) ws → (t v : ℕ) → img is t ≡ some v
       → img (put rows ws is) t ≡ some v
   unfolding put Within
   put-keeps [] is h t v e = e
@@ -233,7 +203,7 @@ module _ (rows : List Row) where
       put-keeps ws _ (λ x m. rw length-set (h x (List·Memᴰ·tail m))) t v
       (next-keeps is (w .0) (w .1) (h w (List·Memᴰ·head refl)) t v e)
 
-  put-has : (ws : List Wish) (is : Images) → Each (Within is) ws → Each (λ w. Has (put rows ws is) (w .0)) ws
+  put-has : (ws : List Wish) (is : ImageList) → Each (Within is) ws → Each (λ w. Has (put rows ws is) (w .0)) ws
   unfolding put Within Has
   put-has [] is h = each-nil _
   put-has (w ∷ ws) is h =
@@ -243,7 +213,7 @@ module _ (rows : List Row) where
       each-cons _ (v, put-keeps ws _ g (w .0) v e) (put-has ws _ g)
 
   -- wishes below m leave the images from m on
-  put-above : (ws : List Wish) (is : Images) (m : ℕ) → Each (λ w. w .0 < m) ws → (t : ℕ) → m ≤ t
+  put-above : (ws : List Wish) (is : ImageList) (m : ℕ) → Each (λ w. w .0 < m) ws → (t : ℕ) → m ≤ t
       → img (put rows ws is) t ≡ img is t
   unfolding put
   put-above [] is m h t l = refl
@@ -270,10 +240,10 @@ module _ (rows : List Row) where
 
   module _ (good : Good rows) where
     -- from m on, the parts of what has an image have one
-    Done : ℕ → Images → Type 0
+    Done : ℕ → ImageList → Type 0
     Done m is = (t u : ℕ) → m ≤ t → t < length rows → img is t ≡ some u → Each (λ w. Has is (w .0)) (parts rows (row rows t) u)
 
-    skip-done : (t : ℕ) (is : Images) → img is t ≡ none → Done (suc t) is → Done t is
+    skip-done : (t : ℕ) (is : ImageList) → img is t ≡ none → Done (suc t) is → Done t is
     unfolding Done
     skip-done t is e d s u k j q = go (ℕ-discrete s t)
       where
@@ -281,7 +251,7 @@ module _ (rows : List Row) where
         go (yes z) = absurd (not-there (back e ∙ rw z at q))
         go (no z) = d s u (omega arith) j q
 
-    put-done : (t u : ℕ) (is : Images) → t < length rows → length is ≡ length rows → img is t ≡ some u → Done (suc t) is
+    put-done : (t u : ℕ) (is : ImageList) → t < length rows → length is ≡ length rows → img is t ≡ some u → Done (suc t) is
         → Done t (put rows (parts rows (row rows t) u) is)
     unfolding Done Within Has
     put-done t u is h l e d s v k j q = go (ℕ-discrete s t)
@@ -305,25 +275,27 @@ module _ (rows : List Row) where
             rw (z, y) (put-has ws is within)
         go (no z) = λ w m. let (x, i) = d s v (omega arith) j before w m in (x, put-keeps ws is within (w .0) x i)
 
-    length-put : (ws : List Wish) (is : Images) → length (put rows ws is) ≡ length is
+    length-put : (ws : List Wish) (is : ImageList) → length (put rows ws is) ≡ length is
     unfolding put
     length-put [] is = refl
     length-put (w ∷ ws) is = length-put ws _ ∙ length-set is (w .0) _
 
-    visit-done : (t : ℕ) (o : Option ℕ) (is : Images) → t < length rows → length is ≡ length rows → img is t ≡ o → Done (suc t) is
+    visit-done : (t : ℕ) (o : Option ℕ) (is : ImageList) → t < length rows → length is ≡ length rows → img is t ≡ o
+        → Done (suc t) is
         → (length (visit rows t o is) ≡ length rows) × Done t (visit rows t o is)
     unfolding visit
     visit-done t none is h l e d = (l, skip-done t is e d)
     visit-done t (some u) is h l e d = (length-put (parts rows (row rows t) u) is ∙ l, put-done t u is h l e d)
 
-    descend-done : (t : ℕ) (is : Images) → t ≤ length rows → length is ≡ length rows → Done t is → Done 0 (descend rows t is)
+    descend-done : (t : ℕ) (is : ImageList) → t ≤ length rows → length is ≡ length rows → Done t is → Done 0 (descend rows t is)
     unfolding descend
     descend-done zero is h l d = d
     descend-done (suc t) is h l d =
         let (k, f) = visit-done t (img is t) is h l refl d in
         descend-done t _ (omega arith) k f
 
-    visit-keeps : (t : ℕ) (o : Option ℕ) (is : Images) → t < length rows → length is ≡ length rows → (a v : ℕ) → img is a ≡ some v
+    visit-keeps : (t : ℕ) (o : Option ℕ) (is : ImageList) → t < length rows → length is ≡ length rows → (a v : ℕ)
+        → img is a ≡ some v
         → img (visit rows t o is) a ≡ some v
     unfolding visit Within
     visit-keeps t none is h l a v e = e
@@ -331,12 +303,12 @@ module _ (rows : List Row) where
         put-keeps (parts rows (row rows t) u) is (λ x m. let b : x .0 < t = parts-below (row rows t) t u (good .earlier t h) x
         m in omega arith) a v e
 
-    length-visit : (t : ℕ) (o : Option ℕ) (is : Images) → length (visit rows t o is) ≡ length is
+    length-visit : (t : ℕ) (o : Option ℕ) (is : ImageList) → length (visit rows t o is) ≡ length is
     unfolding visit
     length-visit t none is = refl
     length-visit t (some u) is = length-put (parts rows (row rows t) u) is
 
-    descend-keeps : (t : ℕ) (is : Images) → t ≤ length rows → length is ≡ length rows → (a v : ℕ) → img is a ≡ some v
+    descend-keeps : (t : ℕ) (is : ImageList) → t ≤ length rows → length is ≡ length rows → (a v : ℕ) → img is a ≡ some v
         → img (descend rows t is) a ≡ some v
     unfolding descend
     descend-keeps zero is h l a v e = e
@@ -361,7 +333,7 @@ module _ (rows : List Row) where
 
 -- THE IMAGES ARE COHERENT WHERE A SUBSTITUTION SERVES
 
-module _ (rows : List Row) (good : Good rows) (σ : Subst) (is : Images) where
+module _ (rows : List Row) (good : Good rows) (σ : Subst) (is : ImageList) where
   there : (a c : ℕ) → images-of rows σ a ≡ some c → Right rows good σ is → Has rows is a → img is a ≡ some c
   unfolding images-of Right Has
   there a c i r (v, e) =
@@ -455,13 +427,13 @@ module _ (rows : List Row) (good : Good rows) (asked : List Wish)
 
 -- THE COMPUTATION: read the images as a substitution, and see whether it serves
 
-unfoldable pub alike : Term → Term → Bool
+unfoldable pub same-terms : Term → Term → Bool
 unfolding same
-alike t u = elim (same t u) [ yes e ↦ true | no e ↦ false ]
+same-terms t u = elim (same t u) [ yes e ↦ true | no e ↦ false ]
 
-pub alike-iff : (t u : Term) → T (alike t u) ↔ (t ≡ u)
-unfolding alike
-alike-iff t u = go (same t u)
+pub same-terms-iff : (t u : Term) → T (same-terms t u) ↔ (t ≡ u)
+unfolding same-terms
+same-terms-iff t u = go (same t u)
   where
     go : (d : Dec (t ≡ u)) → T (elim d [ yes e ↦ true | no e ↦ false ]) ↔ (t ≡ u)
     go (yes e) = (λ _. e, λ _. tt)
@@ -472,8 +444,8 @@ unfolding images reading
 found rows asked = reading rows (img (images rows asked))
 
 unfoldable pub grants : List Row → Subst → Wish → Bool
-unfolding alike apply term
-grants rows σ w = alike (apply σ (term rows (w .0))) (term rows (w .1))
+unfolding same-terms apply term
+grants rows σ w = same-terms (apply σ (term rows (w .0))) (term rows (w .1))
 
 unfoldable pub serves : List Row → List Wish → Bool
 unfolding found grants all-of number terms-after meaning name-of inv flip atom-same on-atom on-sym on-asym turned image text-of
@@ -486,12 +458,12 @@ module _ (rows : List Row) (good : Good rows) (asked : List Wish)
   unfolding serves grants
   serves-granted h w k =
       let (f, t) = inside w k in
-      record { from = f; to = t; is = alike-iff _ _ .0 (all-each (grants rows (found rows asked)) asked h w k) }
+      record { from = f; to = t; is = same-terms-iff _ _ .0 (all-each (grants rows (found rows asked)) asked h w k) }
 
   pub granted-serves : (σ : Subst) → Each (Granted rows good σ) asked → T (serves rows asked)
   unfolding serves found grants
   granted-serves σ g =
       let m = matched-iff rows good asked inside .0 (σ, g) in
       each-all (grants rows (found rows asked)) asked
-      (λ w k. alike-iff _ _ .1 (images-read rows (img (images rows asked)) good (m .coherent) (w .0) (w .1) (inside w k .0)
+      (λ w k. same-terms-iff _ _ .1 (images-read rows (img (images rows asked)) good (m .coherent) (w .0) (w .1) (inside w k .0)
       (m .kept w k)))

@@ -1,8 +1,8 @@
 -- No second answer and no second content of lent memory.
-use mathlib.Core.Path.{_≡_, refl, ap, ap₂, _∙_, sym as back}
+use mathlib.Core.Path.{_≡_, refl, ap, _∙_, sym as back}
 use mathlib.Core.Bool.{Bool, true, false}
 use mathlib.Core.Logic.{_⊎_, inl, inr, ⊎-elim}
-use mathlib.Core.List.{List, [], _∷_, List·Memᴰ, List·Memᴰ·head, List·Memᴰ·tail, List·Memᴰ·not-nil, List·Memᴰ·cases-cons}
+use mathlib.Core.List.{List, []}
 use Prim.Native.Nat.{ℕ, _≤_, _<_}
 use native.Mathlib.Omega.{arith}
 use native.Mathlib.Decide.{ℕ-discrete, decLt}
@@ -14,47 +14,13 @@ use Rattle.model.specs.Table.{Row, term}
 use Rattle.model.specs.Skeleton.{Node, Skeleton}
 use Rattle.model.specs.Events.{Realized}
 use Rattle.model.specs.Sheet.{Sheet, Verdict, Drawing, meant, HasSkeleton}
-use Rattle.model.specs.Rising.{Rising, more, InDictionary, first, later}
+use Rattle.model.specs.Rising.{InDictionary, first}
 use Rattle.model.specs.Maps.{to, Kept, Upto, FirstBroken, SourceVariable, Images, TheMaps}
 use Rattle.model.specs.Answers.{Answer, answered, Asked, no-such, too-short, said, Always, Tells, over, Counts, TheSheet, SaysCounts, AskSheet, HasTerms, SaysWithin, AskWithin, HasReception, HasReceptionAndTerm, SaysDerivable, AskDerivable, ReachIs, SaysReach, AskReach, Sooner, strand, position, FirstOpen, Openness, open-at, SaysRealized, yes-realized, first-open, AskRealized, HasSkeletons, Mapping, breaks, ImageRoom, SaysMap, yes-map, no-map, AskMap, end-to-end, ListRoom, SaysList, AskList}
 use Rattle.theory.specs.GoodTable.{Good}
 use Rattle.theory.specs.Numbers.{term-injective}
 use Rattle.theory.specs.MapLaws.{images-agree}
-
--- Rising lists with the same members are one list
-
-module _ {A : Type 0} (before : A → A → Type 0) (asym : (x y : A) → before x y → ¬ before y x) where
-  same-head : {x y : A} {l m : List A} → ((z : A) → List·Memᴰ z l → before x z) → ((z : A) → List·Memᴰ z m → before y z)
-      → (x ≡ y) ⊎ List·Memᴰ x m
-      → (y ≡ x) ⊎ List·Memᴰ y l
-      → x ≡ y
-  same-head h k (inl e) d = e
-  same-head h k (inr c) (inl e) = back e
-  same-head {x} {y} h k (inr c) (inr d) = absurd (asym x y (h y d) (k x c))
-
-  in-rest : {x z : A} {m : List A} → before x z → (z ≡ x) ⊎ List·Memᴰ z m → List·Memᴰ z m
-  in-rest {x} {z} b (inl e) = let c : before x x = rw e at b in absurd (asym x x c c)
-  in-rest b (inr m) = m
-
-  pub rising-one : (l m : List A) → Rising before l → Rising before m → ((z : A) → List·Memᴰ z l → List·Memᴰ z m)
-      → ((z : A) → List·Memᴰ z m → List·Memᴰ z l)
-      → l ≡ m
-  rising-one [] [] r s f g = refl
-  rising-one [] (y ∷ m) r s f g = absurd (List·Memᴰ·not-nil (g y (List·Memᴰ·head refl)))
-  rising-one (x ∷ l) [] r s f g = absurd (List·Memᴰ·not-nil (f x (List·Memᴰ·head refl)))
-  rising-one (x ∷ l) (y ∷ m) (more h r) (more k s) f g =
-      let e : x ≡ y =
-      same-head h k (List·Memᴰ·cases-cons (f x (List·Memᴰ·head refl))) (List·Memᴰ·cases-cons (g y (List·Memᴰ·head refl))) in
-      ap₂ _∷_ e
-      (rising-one l m r s
-      (λ z q. in-rest (rw e at (h z q)) (List·Memᴰ·cases-cons (f z (List·Memᴰ·tail q))))
-      (λ z q. in-rest (rw (← e) at (k z q)) (List·Memᴰ·cases-cons (g z (List·Memᴰ·tail q)))))
-
-dictionary-asym : (l m : List ℕ) → InDictionary l m → ¬ InDictionary m l
-dictionary-asym (x ∷ l) (y ∷ m) (first h) (first k) = omega arith
-dictionary-asym (x ∷ l) (y ∷ m) (first h) (later k) = omega arith
-dictionary-asym (x ∷ l) (y ∷ m) (later h) (first k) = omega arith
-dictionary-asym (x ∷ l) (y ∷ m) (later h) (later k) = dictionary-asym l m h k
+use Rattle.theory.specs.RisingLists.{rising-one, dictionary-asym}
 
 -- The order of refusals leaves one answer
 

@@ -76,8 +76,8 @@ module _ (rows : List Row) (good : Good rows) where
   part-on : {u : Term} (v : Term) → OnSheet rows u → List·Memᴰ (number rows v) (parts (row-of (number rows) u)) → OnSheet rows v
   part-on {u} v s m =
       let l : number rows u < length rows = number-inside rows good s in
-      let e : Earlier (number rows u) (row-of (number rows) u) = rw (row-at-number rows good s)
-      at (good .earlier (number rows u) l) in
+      let e : Earlier (number rows u) (row-of (number rows) u) =
+      rw (row-at-number rows good s) at (good .earlier (number rows u) l) in
       let k : number rows v < number rows u = parts-earlier (number rows u) (row-of (number rows) u) e (number rows v) m in
       let h : number rows v < length rows = omega arith in
       record { which = number rows v; inside = h; means = number-found rows good v h }

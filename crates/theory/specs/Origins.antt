@@ -1,5 +1,4 @@
 -- Origins decided on a sheet's numbers.
-use mathlib.Core.Path.{_≡_, refl}
 use mathlib.Core.Bool.{Bool, true, false, not, _&&_}
 use mathlib.Core.Logic.{_↔_}
 use mathlib.Core.List.{List, List·Memᴰ}
@@ -41,10 +40,6 @@ module _ (rows : List Row) (K : Skeleton ℕ) where
   originates t = some-of (is-origin t) (events K)
 
 -- They say what they should
-
-sent-is : {M : Type 0} (e : Event M) → T (is-send e) → e ≡ send (message e)
-unfolding is-send message
-sent-is (send t) h = refl
 
 module _ (rows : List Row) (good : Good rows) (K : Skeleton ℕ) (ok : OnTable rows K) where
   abbrev pub L : Skeleton Term

@@ -237,8 +237,7 @@ module _ (rows : List Row) (good : Good rows) (withheld : ℕ → Bool) (sent : 
         which = s .which;
         inside = s .inside;
         held = rw (← number-place rows good s, e) tt;
-        means =
-            s .means;
+        means = s .means;
       }))
       go false e = refl
 

@@ -50,10 +50,6 @@ module _ (rows : List Row) (K : Skeleton ℕ) where
   unfolding is-send reached-before message
   is-open x = not (is-send (x .1)) && not (marked (reached-before (x .0)) (message (x .1)))
 
-  unfoldable pub open-at : List (Happening ℕ)
-  unfolding is-open keep events
-  open-at = keep is-open (events K)
-
   unfoldable pub realized : Bool
   unfolding is-open all-of events
   realized = all-of (λ x. not (is-open x)) (events K)
@@ -171,8 +167,7 @@ module _ (rows : List Row) (good : Good rows) (K : Skeleton ℕ) (ok : OnTable r
       record {
         listed = rw (w .means) at (listed-iff (K .uniq) (ok .uniqs) i (w .inside) .0 (h .0));
         node = n;
-        origin =
-            rw (w .means) at o;
+        origin = rw (w .means) at o;
       })
       (withheld-cases i (w .held))
 

@@ -175,8 +175,7 @@ told-ST s rest e =
         right = record {
           some-event = rw length-upto (leb→le 1 h x);
           low = rw length-upto (leb→le h most-height y);
-          known =
-              known;
+          known = known;
         };
       };
       whole = rw length-upto (leb→le _ _ (b .test));
@@ -262,8 +261,7 @@ was-read s rest e =
     record {
       allowed = record {
         next = rw (t .mark) (found-mark (getD rest 0 0) (getD rest 1 0) (may-follow (s .last)) (g .is));
-        right =
-            t .right;
+        right = t .right;
       };
       whole = t .whole;
     }

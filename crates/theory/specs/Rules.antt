@@ -214,7 +214,8 @@ module _ (n : ℕ) where
         ⊎-elim (λ h. inl (rw (h .1, passes-still k s (h .1)) (h .0))) (λ l. ⊎-map (λ h. h) (λ m. omega arith) rest)
         (pass-cases rules range s e)
 
-    reach-settled : T (settled (reach rules n) rules)
+    -- AS MANY PASSES AS NUMBERS SETTLE
+    pub reach-settled : T (settled (reach rules n) rules)
     unfolding reach
     reach-settled = ⊎-elim (λ h. h) (λ l. absurd (omega arith)) (passes-settle n (replicate n false) (length-replicate n false))
 
@@ -226,3 +227,26 @@ module _ (n : ℕ) where
     pub reach-iff : (i : ℕ) → T (marked (reach rules n) i) ↔ Reached rules i
     unfolding reach Sound
     reach-iff i = (passes-sound rules n (replicate n false) none-marked i, settled-complete rules (reach rules n) reach-settled)
+
+-- WHATEVER THE ORDER OF THE STEPS: marks made by the rules, one at a time, are the least set once they are settled
+
+pub data Made (rules : List Rule) (n : ℕ) : List Bool → Type 0 where
+  none-yet : Made rules n (replicate n false)
+  one-more : {s : List Bool} {r : Rule} → Made rules n s → List·Memᴰ r rules → Made rules n (fire s r)
+
+made-sound : {rules : List Rule} {n : ℕ} {s : List Bool} → Made rules n s → Sound rules s
+unfolding Sound
+made-sound {n} none-yet = λ i h. absurd (rw (blank n i) at h)
+made-sound {rules} (one-more {s} {r} m k) = fire-sound rules s r k (made-sound m)
+
+pub made-settled : (rules : List Rule) (n : ℕ) (s : List Bool) → Made rules n s → T (settled s rules) → (i : ℕ)
+    → T (marked s i) ↔ Reached rules i
+unfolding Sound
+made-settled rules n s m h i = (made-sound m i, settled-complete rules s h)
+
+-- the least: what the rules keep holds of all that is reached
+pub least : {rules : List Rule} (P : ℕ → Type 0)
+    → ((r : Rule) → List·Memᴰ r rules → ((i : ℕ) → List·Memᴰ i (r .needs) → P i) → P (r .gives))
+    → {i : ℕ} → Reached rules i
+    → P i
+least P keeps (by {r} m f) = keeps r m (λ i k. least P keeps (f i k))

@@ -54,8 +54,7 @@ module _ (K L : Skeleton Term) (eased : Eased K L) where
       ⊎-map (eased .fewer-non (atom a)) (λ g. record {
         listed = eased .fewer-uniq (atom a) (g .listed);
         node = g .node;
-        origin =
-            origin-back (g .origin);
+        origin = origin-back (g .origin);
       })
 
   pub realized-stays : (n : Node) (t : Term) → DerivableBefore K n t → DerivableBefore L n t

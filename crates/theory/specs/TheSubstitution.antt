@@ -43,7 +43,7 @@ module _ (A B : Skeleton Term) (bytes : List ℕ) (σ τ : Subst) (p : Kept A B 
 
 -- on a table it is computed, and its images of source variables are terms of the sheet
 module _ (rows : List Row) (good : Good rows) (A B : Skeleton ℕ) (okA : OnTable rows A) (okB : OnTable rows B)
-    (occur : AtomsOccur (means (term rows) A)) (bytes : List ℕ) where
+    (bytes : List ℕ) where
   abbrev A′ : Skeleton Term
   A′ = means (term rows) A
 
@@ -63,18 +63,18 @@ module _ (rows : List Row) (good : Good rows) (A B : Skeleton ℕ) (okA : OnTabl
       record {
         strands = k .strands;
         directions = k .directions;
-        messages = λ l. served rows good A B okA okB occur bytes r₂
-            (serving rows good A B okA okB occur bytes r₂ (record { σ = u .σ; rule = k .messages (omega arith) }));
+        messages = λ l. served rows good A B okA okB bytes r₂
+            (serving rows good A B okA okB bytes r₂ (record { σ = u .σ; rule = k .messages (omega arith) }));
         order = λ l. absurd (omega arith);
         non = λ l. absurd (omega arith);
         uniq = λ l. absurd (omega arith);
       }
 
-  pub it-serves-all : (k : ℕ) → 3 ≤ k → Upto A′ B′ bytes k → Kept A′ B′ bytes k the-substitution
-  it-serves-all k l u =
+  pub it-serves-all : AtomsOccur A′ → (k : ℕ) → 3 ≤ k → Upto A′ B′ bytes k → Kept A′ B′ bytes k the-substitution
+  it-serves-all occur k l u =
       let three : Kept A′ B′ bytes 3 (u .σ) = kept-less A′ B′ bytes 3 k l (u .kept) in
       either-serves A′ B′ bytes (u .σ) the-substitution three (it-serves (record { σ = u .σ; kept = three })) occur k (u .kept)
 
   pub images-on-sheet : (σ : Subst) → Kept A′ B′ bytes 3 σ → (x : Term) → SourceVariable A′ x → OnSheet rows (apply σ x)
   images-on-sheet σ k x v =
-      image-on rows good A B okA okB occur bytes σ (k .directions (omega arith)) (k .messages (omega arith)) x v
+      image-on rows good A B okA okB bytes σ (k .directions (omega arith)) (k .messages (omega arith)) x v
