@@ -10,7 +10,7 @@ use Rattle.model.specs.Table.{row, kind, first, second}
 use Rattle.theory.specs.Upto.{length-upto, upto-at}
 use Rattle.theory.specs.GoodTable.{Good, Earlier}
 use Rattle.theory.specs.Reach.{inverse-at}
-use Rattle.theory.specs.Matching.{Wish, arg₁, arg₂, parts}
+use Rattle.theory.specs.Matching.{Wish, parts}
 use Rattle.tables.specs.Layout.{firsts, seconds, term-count}
 use Rattle.tables.specs.Tables.{byte, row-at, rows-of, rows-in, Filled}
 use Rattle.matching.specs.Pass.{first-to, second-wishes}
@@ -65,40 +65,6 @@ module _ {t : List ℕ} (filled : Filled t) (good : Good (rows-in t)) (i : ℕ) 
       let q : T (leb 9 (kind (row (rows-in t) i)) && leb (kind (row (rows-in t) i)) 11) = rw (kind-at filled i h, e) tt in
       rw (second-at filled i h) at (second-earlier i (row (rows-in t) i) q there)
 
--- The wishes for a row's arguments, by its kind
-
-arg₁-is : (r : Row) → arg₁ r ≡ first r
-unfolding arg₁ first
-arg₁-is (Tag a) = refl
-arg₁-is (Mesg a) = refl
-arg₁-is (Text a) = refl
-arg₁-is (Datum a) = refl
-arg₁-is (Name a) = refl
-arg₁-is (Skey a) = refl
-arg₁-is (Akey a) = refl
-arg₁-is (Pubk a) = refl
-arg₁-is (Inv a) = refl
-arg₁-is (Ltk a b) = refl
-arg₁-is (Pair a b) = refl
-arg₁-is (Enc a b) = refl
-arg₁-is (Hash a) = refl
-
-arg₂-is : (r : Row) → arg₂ r ≡ second r
-unfolding arg₂ second
-arg₂-is (Tag a) = refl
-arg₂-is (Mesg a) = refl
-arg₂-is (Text a) = refl
-arg₂-is (Datum a) = refl
-arg₂-is (Name a) = refl
-arg₂-is (Skey a) = refl
-arg₂-is (Akey a) = refl
-arg₂-is (Pubk a) = refl
-arg₂-is (Inv a) = refl
-arg₂-is (Ltk a b) = refl
-arg₂-is (Pair a b) = refl
-arg₂-is (Enc a b) = refl
-arg₂-is (Hash a) = refl
-
 module _ (rows : List Row) (t : ℕ) where
   -- what the first argument of a row goes to, and the wish for its second one
   abbrev first-goes : Row → ℕ
@@ -119,12 +85,12 @@ module _ (rows : List Row) (t : ℕ) where
 
   more-parts : (r : Row) → T (leb 7 (kind r)) → parts rows r t ≡ (first r, first-goes r) ∷ second-goes r
   unfolding kind parts first second
-  more-parts (Pubk a) h = rw (arg₁-is (row rows t))
+  more-parts (Pubk a) h = refl
   more-parts (Inv a) h = refl
-  more-parts (Ltk a b) h = rw (arg₁-is (row rows t), arg₂-is (row rows t))
-  more-parts (Pair a b) h = rw (arg₁-is (row rows t), arg₂-is (row rows t))
-  more-parts (Enc a b) h = rw (arg₁-is (row rows t), arg₂-is (row rows t))
-  more-parts (Hash a) h = rw (arg₁-is (row rows t))
+  more-parts (Ltk a b) h = refl
+  more-parts (Pair a b) h = refl
+  more-parts (Enc a b) h = refl
+  more-parts (Hash a) h = refl
 
   pub parts-none : (p : ℕ) → leb (kind (row rows p)) 6 ≡ true → parts rows (row rows p) t ≡ []
   parts-none p e = leaf-parts (row rows p) (rw e tt)

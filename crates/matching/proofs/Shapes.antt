@@ -9,14 +9,14 @@ use lib.Dec.{T, eqb, eqb→eq, eqb-refl}
 use lib.ListN.{length}
 use Rattle.model.specs.Term.{Sym, skey, ltk, Asym, akey, pubk, symmetric, asymmetric, Term, atom, flip, inv}
 use Rattle.model.specs.Table.{Row, Tag, Mesg, Text, Datum, Name, Skey, Akey, Pubk, Inv, Ltk, Pair, Enc, Hash}
-use Rattle.model.specs.Table.{row, kind, meaning, term}
+use Rattle.model.specs.Table.{row, kind, first, second, meaning, term}
 use Rattle.theory.specs.Each.{Each, each-nil, each-cons}
-use Rattle.theory.specs.Inverses.{inv-inv}
+use Rattle.model.specs.Laws.{inv-inv}
 use Rattle.theory.specs.GoodTable.{Good, Earlier, Sorted, IsKey, an-akey, a-pubk}
 use Rattle.theory.specs.Numbers.{row-of, term-law, law, number, term-injective, row-is, key-shown}
 use Rattle.theory.specs.Reach.{inverse-at, inverse-law}
 use Rattle.theory.specs.Coherent.{Fits, Coherent}
-use Rattle.theory.specs.Matching.{Wish, arg₁, arg₂, parts}
+use Rattle.theory.specs.Matching.{Wish, parts}
 use Rattle.matching.specs.Pass.{may-be, heads}
 
 -- The row of a kind
@@ -99,7 +99,7 @@ module _ (rows : List Row) (good : Good rows) where
 
     pub fits-here : (img : ℕ → Option ℕ) (r : Row) → row rows p ≡ r → Fit r
         → Each (λ w. img (w .0) ≡ some (w .1)) (parts rows r u) → Fits rows img r u
-    unfolding heads may-be kind parts Fits arg₁ arg₂ meaning
+    unfolding heads may-be kind parts Fits first second meaning
     fits-here img (Tag n) e t f = rw (eqb→eq u p t) (law rows good p h e)
     fits-here img (Mesg n) e t f = tt
     fits-here img (Text n) e t f = let (m, q) = is-text (row rows u) t in (m, law rows good u k q)
@@ -131,7 +131,7 @@ module _ (rows : List Row) (good : Good rows) where
     Both w = (w .0 < p) × (w .1 < length rows)
 
     pub parts-inside : (r : Row) → Earlier p r → Fit r → Each Both (parts rows r u)
-    unfolding heads may-be kind parts Earlier arg₁ arg₂
+    unfolding heads may-be kind parts Earlier first second
     parts-inside (Tag n) b t = each-nil _
     parts-inside (Mesg n) b t = each-nil _
     parts-inside (Text n) b t = each-nil _
@@ -190,7 +190,7 @@ module _ (rows : List Row) (good : Good rows) where
       Goes w = (w .0 < length rows) × (img (w .0) ≡ some (w .1))
 
       pub parts-there : (r : Row) → Earlier p r → Fits rows img r u → Each Goes (parts rows r u)
-      unfolding Fits parts Earlier arg₁ arg₂
+      unfolding Fits parts Earlier first second
       parts-there (Tag n) b f = each-nil _
       parts-there (Mesg n) b f = each-nil _
       parts-there (Text n) b f = each-nil _

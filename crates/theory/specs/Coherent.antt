@@ -1,19 +1,23 @@
 -- Matching on a table: an image for each term that has one, and the substitution that it stands for.
 use mathlib.Core.Path.{_≡_, refl, ap, ap₂, _∙_, sym as back}
 use mathlib.Core.Bool.{Bool, false}
+use mathlib.Core.Logic.{_≢_}
 use mathlib.Core.List.{List}
 use mathlib.Core.Option.{Option, none, some}
 use Prim.Native.Nat.{ℕ, zero, suc, _<_}
 use native.Mathlib.Omega.{arith}
 use lib.ListN.{length}
-use Rattle.model.specs.Term.{Sym, skey, Asym, akey, text, datum, name, symmetric, asymmetric, Term, tag, mesg, atom, pair, enc, hash, inv}
+use Rattle.model.specs.Term.{Sym, skey, Asym, akey, Atom, text, datum, name, symmetric, asymmetric, Term, tag, mesg, atom, pair, enc, hash, inv}
 use Rattle.model.specs.Subst.{Subst, on-atom, on-asym, on-sym, turned, apply}
 use Rattle.model.specs.Table.{Row, Tag, Mesg, Text, Datum, Name, Skey, Akey, Pubk, Inv, Ltk, Pair, Enc, Hash, row, name-of, meaning, term}
-use Rattle.theory.specs.Inverses.{inv-inv}
-use Rattle.theory.specs.Substituting.{inv-apply, Keyish, keyish-atom}
+use Rattle.model.specs.Laws.{inv-inv, inv-apply}
 use Rattle.theory.specs.GoodTable.{IsName, IsKey, Good, Earlier, Sorted}
 use Rattle.theory.specs.Numbers.{row-of, term-law, law, number, number-term, row-is, key-shown, name-shown}
 use Rattle.theory.specs.OnSheet.{OnSheet, on-inverse, term-number, number-inside}
+
+-- an atom is no message variable
+no-variable : {a : Atom} {n : ℕ} → atom a ≡ mesg n → ⊥
+no-variable e = let z : _≡_ {A = ℕ} 0 1 = cc in omega arith
 
 -- what a term of a sort holds
 unfoldable pub text-of : Term → ℕ
@@ -123,7 +127,7 @@ module _ (rows : List Row) (img : ℕ → Option ℕ) where
       image-row (Pubk a) q b s (c, i, p) = rw (law rows good u l p, name-image a c b s i)
       image-row (Inv a) q b s (c, i, _, p) =
           let (k, z) = key-shown (term rows) s (term-law rows good a (omega arith)) in
-          let y : Keyish (term rows a) = rw z (keyish-atom _) in
+          let y : (n : ℕ) → term rows a ≢ mesg n = λ n e. no-variable (back z ∙ e) in
           back (inv-apply reading (term rows a) y) ∙ (ap inv (known a c b i) ∙ back p)
       image-row (Ltk a c) q b s (x, y, i, j, p) =
           rw (law rows good u l p, name-image a x (b .0) (s .0) i, name-image c y (b .1) (s .1) j)
@@ -160,7 +164,7 @@ module _ (rows : List Row) (good : Good rows) (σ : Subst) where
       × (term rows u ≡ inv (term rows (number rows (apply σ (term rows a)))))
   inverse-moved a u h l k e =
       let (b, z) = key-shown (term rows) k (term-law rows good a h) in
-      let y : Keyish (term rows a) = rw z (keyish-atom _) in
+      let y : (n : ℕ) → term rows a ≢ mesg n = λ n e. no-variable (back z ∙ e) in
       let x : inv (apply σ (term rows a)) ≡ term rows u = inv-apply σ (term rows a) y ∙ e in
       let s : OnSheet rows (inv (term rows u)) = on-inverse rows good (term rows u)
       (record { which = u; inside = l; means = refl }) in

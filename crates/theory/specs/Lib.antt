@@ -8,8 +8,7 @@ pub mod ListTests
 pub mod Upto
 pub mod RisingLists
 pub mod Deciding
--- Messages and tables: inverses, parts, substitutions; equal numbers are equal terms; the terms of a table are closed.
-pub mod Inverses
+-- Messages and tables: parts, substitutions; equal numbers are equal terms; the terms of a table are closed.
 pub mod Parts
 pub mod Within
 pub mod Substituting

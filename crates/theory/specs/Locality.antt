@@ -4,23 +4,6 @@ use Prim.Native.Nat.{ℕ}
 use Rattle.model.specs.Derive.{Derivable}
 use Rattle.model.specs.Term.{Atom, Term, tag, mesg, atom, pair, enc, hash, inv}
 
--- more sent and less withheld leaves what is derivable
-module _ (sent sent′ : Term → Type 0) (withheld withheld′ : Atom → Type 0) (more : (t : Term) → sent t → sent′ t)
-    (less : (a : Atom) → withheld′ a → withheld a) where
-  pub derivable-mono : {t : Term} → Derivable sent withheld t → Derivable sent′ withheld′ t
-  derivable-mono (Derivable.given h) = Derivable.given (more _ h)
-  derivable-mono Derivable.a-tag = Derivable.a-tag
-  derivable-mono Derivable.a-mesg = Derivable.a-mesg
-  derivable-mono (Derivable.an-atom h) = Derivable.an-atom (λ k. h (less _ k))
-  derivable-mono (Derivable.join d e) = Derivable.join (derivable-mono d) (derivable-mono e)
-  derivable-mono (Derivable.split-left d) = Derivable.split-left (derivable-mono d)
-  derivable-mono (Derivable.split-right d) = Derivable.split-right (derivable-mono d)
-  derivable-mono (Derivable.encrypt d e) = Derivable.encrypt (derivable-mono d) (derivable-mono e)
-  derivable-mono (Derivable.decrypt d e) = Derivable.decrypt (derivable-mono d) (derivable-mono e)
-  derivable-mono (Derivable.make-hash d) = Derivable.make-hash (derivable-mono d)
-
--- Locality
-
 -- the terms of a sheet: parts and inverses of its terms are its terms
 pub record Closed (sheet : Term → Type 0) : Type 0 where
   pub pair-left : {t u : Term} → sheet (pair t u) → sheet t

@@ -15,7 +15,8 @@ use Rattle.model.specs.Skeleton.{message, Skeleton, means}
 use Rattle.model.specs.Maps.{Rule2, Rule3, Rule4, Rule5, Rule6, OneByteEach, Kept, Upto, FirstBroken, SourceVariable, Images}
 use Rattle.model.specs.Sheet.{Sheet, Verdict, Drawing, meant}
 use Rattle.model.specs.Answers.{HasSkeletons, is-map, breaks, over, ImageRoom, SaysMap, yes-map, no-map}
-use Rattle.theory.specs.Substituting.{plain, flip-on-atom}
+use Rattle.theory.specs.Substituting.{plain}
+use Rattle.model.specs.Laws.{flip-on-atom}
 use Rattle.theory.specs.GoodTable.{Good}
 use Rattle.theory.specs.Numbers.{number}
 use Rattle.theory.specs.OnSheet.{OnSheet, on-pair, on-enc, on-hash, on-inverse, number-inside, term-number}

@@ -14,7 +14,7 @@ use Rattle.model.specs.Term.{Term, atom-same, same, flip, inv}
 use Rattle.model.specs.Subst.{Subst, apply, on-atom, on-sym, on-asym, turned}
 use Rattle.model.specs.Table.{Row, Tag, Mesg, Text, Datum, Name, Skey, Akey, Pubk, Inv, Ltk, Pair, Enc, Hash, row, name-of, meaning, terms-after, term, first, second}
 use Rattle.theory.specs.Each.{Each, each-nil, each-cons}
-use Rattle.theory.specs.Inverses.{inv-inv}
+use Rattle.model.specs.Laws.{inv-inv}
 use Rattle.theory.specs.GoodTable.{Good, Earlier}
 use Rattle.theory.specs.Numbers.{term-injective, number, number-term, number-found}
 use Rattle.theory.specs.ListTests.{all-of, all-each, each-all}

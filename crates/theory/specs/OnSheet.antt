@@ -7,7 +7,7 @@ use native.Mathlib.Omega.{arith}
 use lib.ListN.{length}
 use Rattle.model.specs.Term.{akey, pubk, text, datum, name, symmetric, asymmetric, Term, tag, mesg, atom, pair, enc, hash, flip, inv}
 use Rattle.model.specs.Table.{Row, Inv, row, meaning, term}
-use Rattle.theory.specs.Inverses.{inv-inv}
+use Rattle.model.specs.Laws.{inv-inv}
 use Rattle.theory.specs.GoodTable.{IsKey, an-akey, a-pubk, Good, Earlier}
 use Rattle.theory.specs.Numbers.{row-of, term-law, number, number-term, row-is}
 use Rattle.theory.specs.Locality.{Closed}

@@ -14,7 +14,7 @@ use Rattle.model.specs.Skeleton.{recv, Node, Skeleton, At, means}
 use Rattle.model.specs.Events.{SentBefore, Withheld, DerivableBefore}
 use Rattle.theory.specs.Upto.{in-upto, below-upto}
 use Rattle.theory.specs.GoodTable.{Good}
-use Rattle.theory.specs.Locality.{derivable-mono}
+use Rattle.model.specs.SkeletonLaws.{derivable-mono}
 use Rattle.theory.specs.Reach.{NumberSent, NumberWithheld}
 use Rattle.theory.specs.Realizing.{withheld, sent as sent-numbers, sent-to, sent-from, withheld-to, withheld-from}
 use Rattle.theory.specs.ListTests.{keep, keeps, kept}

@@ -10,7 +10,7 @@ use lib.ListN.{length}
 use Rattle.model.specs.Term.{akey, pubk, skey, ltk, Atom, text, datum, name, symmetric, asymmetric, Term, atom, flip, inv}
 use Rattle.model.specs.Table.{Row, Tag, Mesg, Text, Datum, Name, Skey, Akey, Pubk, Inv, Ltk, Pair, Enc, Hash, row, meaning, term}
 use Rattle.model.specs.Derive.{Derivable}
-use Rattle.theory.specs.Inverses.{inv-inv}
+use Rattle.model.specs.Laws.{inv-inv}
 use Rattle.theory.specs.Each.{Each, each-nil, each-cons, each-append}
 use Rattle.theory.specs.Find.{find, find-le, find-at}
 use Rattle.theory.specs.GoodTable.{row-same, IsKey, an-akey, a-pubk, Good, Earlier, Sorted}

@@ -14,7 +14,7 @@ use Rattle.model.specs.Events.{Before, SentBefore, Withheld, DerivableBefore, R
 use Rattle.model.specs.Lists.{some-of}
 use Rattle.theory.specs.Tests.{both, pair-up, or-cases, or-left, or-right, not-not-iff}
 use Rattle.theory.specs.Each.{Each}
-use Rattle.theory.specs.Locality.{derivable-mono}
+use Rattle.model.specs.SkeletonLaws.{derivable-mono}
 use Rattle.theory.specs.GoodTable.{Good}
 use Rattle.theory.specs.Numbers.{term-injective}
 use Rattle.theory.specs.Rules.{marked, reach}

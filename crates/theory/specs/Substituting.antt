@@ -1,41 +1,11 @@
--- Substitutions keep inverses, compose, and are settled by the images of the variables.
+-- Substitutions compose, and are settled by the images of the variables.
 use mathlib.Core.Path.{_≡_, refl, ap, ap₂}
 use mathlib.Core.Bool.{Bool, true, false}
-use mathlib.Core.Logic.{_≢_}
 use Prim.Native.Nat.{ℕ}
-use native.Mathlib.Omega.{arith}
 use Rattle.model.specs.Subst.{Subst, turned, on-sym, on-asym, on-atom, apply, Variable, a-mesg, a-text, a-datum, a-name, an-skey, an-akey}
-use Rattle.model.specs.Term.{Sym, skey, ltk, Asym, akey, pubk, Atom, text, datum, name, symmetric, asymmetric, Term, tag, mesg, atom, pair, enc, hash, flip, inv}
+use Rattle.model.specs.Term.{Sym, skey, ltk, Asym, akey, pubk, Atom, text, datum, name, symmetric, asymmetric, Term, tag, mesg, atom, pair, enc, hash, flip}
 use Rattle.model.specs.Carry.{Inside, in-inverse, in-pubk, in-ltk-left, in-ltk-right, Occurs, here, left, right, body, key, hashed, inside}
-use Rattle.theory.specs.Inverses.{not-not}
-
--- Inverses are kept
-
-pub flip-on-atom : (σ : Subst) (a : Atom) → flip (on-atom σ a) ≡ on-atom σ (flip a)
-unfolding flip on-atom turned
-flip-on-atom σ (text n) = refl
-flip-on-atom σ (datum n) = refl
-flip-on-atom σ (name n) = refl
-flip-on-atom σ (symmetric k) = refl
-flip-on-atom σ (asymmetric true k) = rw not-not
-flip-on-atom σ (asymmetric false k) = refl
-
--- a key is no message variable: its image could be anything
-unfoldable pub Keyish : Term → Type 0
-Keyish t = (n : ℕ) → t ≢ mesg n
-
-pub keyish-atom : (a : Atom) → Keyish (atom a)
-unfolding Keyish
-keyish-atom a n e = let z : _≡_ {A = ℕ} 0 1 = cc in omega arith
-
-pub inv-apply : (σ : Subst) (t : Term) → Keyish t → inv (apply σ t) ≡ apply σ (inv t)
-unfolding Keyish inv apply
-inv-apply σ (tag n) h = refl
-inv-apply σ (mesg n) h = absurd (h n refl)
-inv-apply σ (atom a) h = rw flip-on-atom
-inv-apply σ (pair t u) h = refl
-inv-apply σ (enc t k) h = refl
-inv-apply σ (hash t) h = refl
+use Rattle.model.specs.Laws.{not-not}
 
 -- The plain substitution, and one after another
 
