@@ -57,3 +57,4 @@ pub mod TheSubstitution
 pub mod Asking
 pub mod Agreement
 pub mod Pinned
+pub mod Alone

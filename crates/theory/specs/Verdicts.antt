@@ -35,7 +35,7 @@ verdict-one (unread h) (judged k a) = let z = read-one h k in let y : _≡_ {A =
 verdict-one (judged h a) (unread k) = let z = read-one h k in let y : _≡_ {A = ℕ} 0 1 = cc in absurd (omega arith)
 verdict-one (judged {s} h a) (judged {s = t} k b) = let z = read-one h k in let y : s ≡ t = cc in accepting-one s a (rw y b)
 
-accepting-same : {s t : Sheet} → Accepting s (accepted t) → s ≡ t
+pub accepting-same : {s t : Sheet} → Accepting s (accepted t) → s ≡ t
 accepting-same (right n g) = refl
 
 -- an accepted sheet has a good table, drawings on it, and skeletons in the sense of 001
