@@ -20,6 +20,7 @@ use Rattle.tables.specs.Tables.{byte, the-row, rows-in, Filled}
 use Rattle.keys.specs.declared.Keys.{Keys}
 use Rattle.keys.specs.Inverted.{Inverted, Paired, all}
 use Rattle.keys.specs.Partners.{Own, Partner, of-inverse, of-key, of-other, Partners}
+use Rattle.keys.proofs.Tests.{both-true}
 use Rattle.keys.proofs.Rows.{count-is, row-is, kind-is, earlier-bytes}
 
 module _ (rows : List Row) where
@@ -133,13 +134,6 @@ module _ (rows : List Row) (n : ℕ) where
     inverted e c p = record { at = λ i h. partner-inverse h e (c i) (p .at i h) }
 
 -- By the bytes of a table
-
-both-true : (a b : Bool) → (a && b) ≡ true → (a ≡ true) × (b ≡ true)
-both-true true b e = (refl, e)
-both-true false b e = absurd (true≢false (back e))
-
-pub was-no : {b : Bool} {P : Type 0} → (b ≡ true) ↔ P → b ≡ false → ¬ P
-was-no test e h = true≢false (back (test .1 h) ∙ e)
 
 pub own-none : {l : List ℕ} → length l ≡ 200 → Own 0 l
 own-none e = record { long = e; at = λ k h. absurd (omega arith) }

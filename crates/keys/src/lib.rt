@@ -40,17 +40,17 @@ fn fill_own(inverses: &mut [u8], n: u8)
     }
 }
 
-// What the row j says: if it is the inverse of a key, the two are each other's.
-fn pair_at(table: &[u8], inverses: &mut [u8], j: u8)
-    requires { ⌜ Filled (now table) × Fair (rows-in (now table)) × (j < byte (now table) term-count) ⌝ }
-    requires { ⌜ Partners (rows-in (now table)) j (now inverses) ⌝ }
-    ensures { λ _. ⌜ Partners (rows-in (now (table .entry))) (j + 1) (now (inverses .exit)) ⌝ }
+// What the row of t says: if t is the inverse of a key, the two are each other's.
+fn pair_at(table: &[u8], inverses: &mut [u8], t: Term)
+    requires { ⌜ Filled (now table) × Fair (rows-in (now table)) × (t .0 < byte (now table) term-count) ⌝ }
+    requires { ⌜ Partners (rows-in (now table)) (t .0) (now inverses) ⌝ }
+    ensures { λ _. ⌜ Partners (rows-in (now (table .entry))) (t .0 + 1) (now (inverses .exit)) ⌝ }
 {
-    let at = j as usize;
+    let at = t.0 as usize;
     if table[at] == INVERSE {
         let key = table[FIRSTS + at];
         inverses[at] = key;
-        inverses[key as usize] = j;
+        inverses[key as usize] = t.0;
     }
 }
 
@@ -60,19 +60,19 @@ fn pair_all(table: &[u8], inverses: &mut [u8])
     ensures { λ _. ⌜ Partners (rows-in (now (table .entry))) (byte (now (table .entry)) term-count) (now (inverses .exit)) ⌝ }
 {
     for j in 0..table[TERM_COUNT] {
-        pair_at(table, inverses, j);
+        pair_at(table, inverses, Term(j));
     }
 }
 
-// Whether the term i is a key that no row is the inverse of.
-fn lacking_at(table: &[u8], inverses: &[u8], i: u8) -> bool
-    requires { ⌜ Filled (now table) × (i < byte (now table) term-count) ⌝ }
+// Whether t is a key that no row is the inverse of.
+fn lacking_at(table: &[u8], inverses: &[u8], t: Term) -> bool
+    requires { ⌜ Filled (now table) × (t .0 < byte (now table) term-count) ⌝ }
     requires { ⌜ Partners (rows-in (now table)) (byte (now table) term-count) (now inverses) ⌝ }
-    ensures { λ r. ⌜ (r ≡ true) ↔ Lacking (rows-in (now (table .entry))) i ⌝ }
+    ensures { λ r. ⌜ (r ≡ true) ↔ Lacking (rows-in (now (table .entry))) (t .0) ⌝ }
 {
-    let at = i as usize;
+    let at = t.0 as usize;
     let kind = table[at];
-    ((kind == ASYMMETRIC) | (kind == PUBLIC)) & (inverses[at] == i)
+    ((kind == ASYMMETRIC) | (kind == PUBLIC)) & (inverses[at] == t.0)
 }
 
 // The lowest such key.
@@ -82,7 +82,7 @@ fn lowest_lacking(table: &[u8], inverses: &[u8]) -> Keys
     ensures { λ r. ⌜ Paired (rows-in (now (table .entry))) (now (inverses .entry)) r ⌝ }
 {
     for i in 0..table[TERM_COUNT] {
-        if lacking_at(table, inverses, i) {
+        if lacking_at(table, inverses, Term(i)) {
             return Keys::Without(Term(i));
         }
     }

@@ -6,9 +6,11 @@ use native.Mathlib.Numerals.{add-one}
 use native.Mathlib.Omega.{arith}
 use lib.ListN.{length}
 use Rattle.model.specs.Reading as Reading
+use Rattle.model.specs.Skeleton.{Skeleton}
 use Rattle.model.specs.Reading.{edition, term, begin, strand, order, non, uniq, end, size, says}
 use Rattle.tables.specs.Layout.{skeleton-count, block, strand-count, order-count, non-count, uniq-count}
-use Rattle.tables.specs.Tables.{byte}
+use Rattle.tables.specs.Stores.{HasRoom}
+use Rattle.tables.specs.Tables.{Filled, skeleton-at, byte}
 use Rattle.tables.proofs.Upto.{length-upto}
 use Rattle.tables.proofs.Look.{length-rows, length-strands, length-orders, length-nons, length-uniqs, length-drawn}
 use Rattle.records.specs.Marks.{the-mark}
@@ -34,39 +36,26 @@ module _ (last : ℕ) (t rest : List ℕ) (u : Underway last t) where
   a-skeleton : Inside (the-mark last) → 0 < byte t skeleton-count
   a-skeleton i = u .begun (from-SK last i)
 
-  module _ (i : Inside (the-mark last)) where
-    abbrev last-k : (k : ℕ) × (k + 1 ≡ byte t skeleton-count)
-    last-k = some-k (byte t skeleton-count) (a-skeleton i)
-
-    strand-room : length (Reading.in-work (state-in last t) .strands) < 6 → InWork t strand-count 6
-    strand-room h =
-        let k = last-k in
-        record { k = k .0; last = k .1; room = rw (at-work t (k .0) (k .1) last, length-strands t (block (k .0))) at h }
-
-    order-room : length (Reading.in-work (state-in last t) .order) < 64 → InWork t order-count 64
-    order-room h =
-        let k = last-k in
-        record { k = k .0; last = k .1; room = rw (at-work t (k .0) (k .1) last, length-orders t (block (k .0))) at h }
-
-    non-room : length (Reading.in-work (state-in last t) .non) < 32 → InWork t non-count 32
-    non-room h =
-        let k = last-k in
-        record { k = k .0; last = k .1; room = rw (at-work t (k .0) (k .1) last, length-nons t (block (k .0))) at h }
-
-    uniq-room : length (Reading.in-work (state-in last t) .uniq) < 32 → InWork t uniq-count 32
-    uniq-room h =
-        let k = last-k in
-        record { k = k .0; last = k .1; room = rw (at-work t (k .0) (k .1) last, length-uniqs t (block (k .0))) at h }
+  -- where the definition counts less than the most of a skeleton's records, the table does
+  in-work-room : (count most : ℕ) (counts : Skeleton ℕ → ℕ) → ((b : ℕ) → counts (skeleton-at t b) ≡ byte t (b + count))
+      → Inside (the-mark last) → counts (Reading.in-work (state-in last t)) < most → InWork t count most
+  in-work-room count most counts same i h =
+      let k = some-k (byte t skeleton-count) (a-skeleton i) in
+      record { k = k .0; last = k .1; room = rw (at-work t (k .0) (k .1) last, same (block (k .0))) at h }
 
   pub room : (said : Record) → Whole (Answer.Good said) → Told (state-in last t) rest (says (record-of said rest))
       → Room t said rest
   room Record.Edition w h = tt
   room (Record.Term row) w h = (rw length-rows at (h .0), w)
   room Record.Begin w h = rw length-drawn at (h .0)
-  room (Record.Strand height) w h = (strand-room (h .3) (h .0), rw length-upto at (h .1), rw length-upto at (h .2))
-  room (Record.Order send reception) w h = order-room (h .2) (h .0)
-  room (Record.Non atom) w h = non-room (h .2) (h .0)
-  room (Record.Uniq atom) w h = uniq-room (h .2) (h .0)
+  room (Record.Strand height) w h = (
+    in-work-room strand-count 6 (λ K. length (K .strands)) (length-strands t) (h .3) (h .0),
+    rw length-upto at (h .1),
+    rw length-upto at (h .2),
+  )
+  room (Record.Order send reception) w h = in-work-room order-count 64 (λ K. length (K .order)) (length-orders t) (h .2) (h .0)
+  room (Record.Non atom) w h = in-work-room non-count 32 (λ K. length (K .non)) (length-nons t) (h .2) (h .0)
+  room (Record.Uniq atom) w h = in-work-room uniq-count 32 (λ K. length (K .uniq)) (length-uniqs t) (h .2) (h .0)
   room Record.End w h = a-skeleton (h .1)
 
 pub size-most : (s : Reading.State) (rest : List ℕ) (r : Reading.Record) → Told s rest (says r) → size r ≤ length rest
@@ -92,8 +81,8 @@ size-some (uniq a) = omega arith
 size-some end = omega arith
 
 -- the last skeleton is the one that has room
-pub in-last : {t : List ℕ} {count most : ℕ} → InWork t count most → (k : ℕ) → k + 1 ≡ byte t skeleton-count
-    → byte t (block k + count) < most
-in-last {t} {count} {most} w k e =
+pub in-last : {t : List ℕ} {count most : ℕ} → Filled t → InWork t count most → (k : ℕ) → k + 1 ≡ byte t skeleton-count
+    → HasRoom k count most t
+in-last {t} {count} {most} f w k e =
     let same : w .k ≡ k = omega (arith, w .last) in
-    subst (λ j. byte t (block j + count) < most) same (w .room)
+    record { filled = f; there = omega arith; room = subst (λ j. byte t (block j + count) < most) same (w .room) }

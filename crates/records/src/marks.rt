@@ -81,7 +81,8 @@ fn may_follow(last: u8, mark: u8) -> bool
 // The mark at the start of the remainder, after the mark `last`; none where it is unknown or may not come next.
 pub fn read_mark(last: u8, rest: &[u8]) -> u8
     requires { ⌜ 2 ≤ length (now rest) ⌝ }
-    ensures { λ r. ⌜ the-mark r ≡ marked-as (getD (now (rest .entry)) 0 0) (getD (now (rest .entry)) 1 0) (may-follow (the-mark last)) ⌝ }
+    ensures { λ r. ⌜ the-mark r
+        ≡ marked-as (getD (now (rest .entry)) 0 0) (getD (now (rest .entry)) 1 0) (may-follow (the-mark last)) ⌝ }
 {
     let mark = mark_of(rest[0], rest[1]);
     if may_follow(last, mark) {

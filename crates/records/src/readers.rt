@@ -22,6 +22,7 @@ use tables::STRANDS;
 use tables::TERMS;
 use tables::UNIQS;
 use tables::blocks::Event;
+use tables::blocks::RECEIVE;
 use tables::blocks::event_at;
 use tables::blocks::orders_in;
 use tables::rows::Row;
@@ -92,7 +93,8 @@ pub fn read_edition(rest: &[u8]) -> Answer
 // A whole TM record: its row is right and new.
 fn term_said(table: &[u8], row: Row) -> Answer
     requires { ⌜ Filled (now table) ⌝ }
-    ensures { λ r. ⌜ ((rest : List ℕ) → Reads r rest (read-row (rows-in (now (table .entry))) (row .kind) (row .first) (row .second))) ⌝ }
+    ensures { λ r. ⌜ ((rest : List ℕ)
+        → Reads r rest (read-row (rows-in (now (table .entry))) (row .kind) (row .first) (row .second))) ⌝ }
 {
     if row_right(table, row) {
         if on_sheet(table, row) {
@@ -136,7 +138,7 @@ fn event_right(terms: usize, direction: u8, message: Term) -> bool
     ensures { λ r. ⌜ r ≡ (leb direction 1 && ltb (message .0) terms) ⌝ }
 {
     let t = message.0 as usize;
-    (direction <= 1) & (t < terms)
+    (direction <= RECEIVE) & (t < terms)
 }
 
 // Whether each event of an ST record is right.
@@ -162,13 +164,13 @@ pub fn read_strand(terms: usize, strands: usize, rest: &[u8]) -> Answer
         return Answer::Refused(1);
     }
     let height = rest[2];
-    if height < 1 {
-        return Answer::Refused(4);
-    }
-    if HEIGHT < height {
-        return Answer::Refused(4);
-    }
     let n = height as usize;
+    if n < 1 {
+        return Answer::Refused(4);
+    }
+    if HEIGHT < n {
+        return Answer::Refused(4);
+    }
     if rest.len() < 3 + 2 * n {
         return Answer::Refused(1);
     }
@@ -226,7 +228,8 @@ pub fn read_order(table: &[u8], k: usize, rest: &[u8]) -> Answer
 // NO and UO records: each is told how many of its kind there are.
 pub fn read_non(table: &[u8], nons: usize, rest: &[u8]) -> Answer
     requires { ⌜ Filled (now table) ⌝ }
-    ensures { λ r. ⌜ Reads r (now (rest .entry)) (read-atom most-nons Reading.non (rows-in (now (table .entry))) nons (now (rest .entry))) ⌝ }
+    ensures { λ r. ⌜ Reads r (now (rest .entry))
+        (read-atom most-nons Reading.non (rows-in (now (table .entry))) nons (now (rest .entry))) ⌝ }
 {
     if NONS <= nons {
         return Answer::Refused(4);
@@ -243,7 +246,8 @@ pub fn read_non(table: &[u8], nons: usize, rest: &[u8]) -> Answer
 
 pub fn read_uniq(table: &[u8], uniqs: usize, rest: &[u8]) -> Answer
     requires { ⌜ Filled (now table) ⌝ }
-    ensures { λ r. ⌜ Reads r (now (rest .entry)) (read-atom most-uniqs Reading.uniq (rows-in (now (table .entry))) uniqs (now (rest .entry))) ⌝ }
+    ensures { λ r. ⌜ Reads r (now (rest .entry))
+        (read-atom most-uniqs Reading.uniq (rows-in (now (table .entry))) uniqs (now (rest .entry))) ⌝ }
 {
     if UNIQS <= uniqs {
         return Answer::Refused(4);

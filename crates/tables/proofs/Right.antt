@@ -36,7 +36,7 @@ thirteen P a b c d e f g h i j k l m (suc (suc (suc (suc (suc (suc (suc (suc (su
     absurd (omega arith)
 
 -- a row's kind is one
-kind-small : (r : Table.Row) → ltb (kind r) 13 ≡ true
+kind-small : (r : Table.Row) → leb (kind r) 12 ≡ true
 unfolding kind
 kind-small (Tag a) = refl
 kind-small (Mesg a) = refl
@@ -70,12 +70,12 @@ module _ (rows : List Table.Row) (t : ℕ) where
   unfolding is-key
   key-test = of-kind (λ k. eqb k 6 || eqb k 7) refl
 
-  term-test : ltb (kind-of rows t) 13 ≡ ltb t (length rows)
-  term-test = of-kind (λ k. ltb k 13) refl ∙ rw kind-small (and-true (ltb t (length rows)))
+  term-test : leb (kind-of rows t) 12 ≡ ltb t (length rows)
+  term-test = of-kind (λ k. leb k 12) refl ∙ rw kind-small (and-true (ltb t (length rows)))
 
-  body-test : ltb (kind-of rows t) 13 && not (eqb (kind-of rows t) 1) ≡ ltb t (length rows) && not (is-mesg (row rows t))
+  body-test : leb (kind-of rows t) 12 && not (eqb (kind-of rows t) 1) ≡ ltb t (length rows) && not (is-mesg (row rows t))
   unfolding is-mesg
-  body-test = of-kind (λ k. ltb k 13 && not (eqb k 1)) refl ∙ rw kind-small
+  body-test = of-kind (λ k. leb k 12 && not (eqb k 1)) refl ∙ rw kind-small
 
   pub atom-test : leb 2 (kind-of rows t) && leb (kind-of rows t) 9 ≡ an-atom rows t
   unfolding an-atom is-atom
@@ -149,7 +149,8 @@ module _ (rows : List Table.Row) (a b : ℕ) where
   unfolding row-of-kind
   unknown k h =
       elem-out
-      (Tag a ∷ Mesg a ∷ Text a ∷ Datum a ∷ Name a ∷ Skey a ∷ Akey a ∷ Pubk a ∷ Inv a ∷ Ltk a b ∷ Pair a b ∷ Enc a b ∷ Hash a ∷ []) k h
+      (Tag a ∷ Mesg a ∷ Text a ∷ Datum a ∷ Name a ∷ Skey a ∷ Akey a ∷ Pubk a ∷ Inv a ∷ Ltk a b ∷ Pair a b ∷ Enc a b ∷ Hash a ∷ [])
+      k h
 
   kind-known : (k : ℕ) → k < 13 → kind (the-row k a b) ≡ k
   unfolding the-row kind

@@ -39,6 +39,6 @@ by-kinds kind-at r =
     || eqb (r .kind) 7 && eqb a 4 && unused
     || eqb (r .kind) 8 && (eqb a 6 || eqb a 7) && unused
     || eqb (r .kind) 9 && eqb a 4 && eqb b 4
-    || eqb (r .kind) 10 && ltb a 13 && ltb b 13
-    || eqb (r .kind) 11 && ltb a 13 && ltb b 13 && not (eqb b 1)
-    || eqb (r .kind) 12 && ltb a 13 && unused
+    || eqb (r .kind) 10 && leb a 12 && leb b 12
+    || eqb (r .kind) 11 && leb a 12 && leb b 12 && not (eqb b 1)
+    || eqb (r .kind) 12 && leb a 12 && unused

@@ -37,6 +37,12 @@ pub record Begun (t t′ : List ℕ) : Type 0 where
   pub blocks : Keeps (block 0) (block (byte t skeleton-count)) t t′
   pub filled : Filled t′
 
+-- the skeleton k is there, and has room for one record more of those that are counted at c
+pub record HasRoom (k c most : ℕ) (t : List ℕ) : Type 0 where
+  pub filled : Filled t
+  pub there : k < byte t skeleton-count
+  pub room : byte t (block k + c) < most
+
 -- the skeleton k is another; all that is outside its block stays
 pub record Redrawn (k : ℕ) (K : Skeleton ℕ) (t t′ : List ℕ) : Type 0 where
   pub skeleton : skeleton-in t′ k ≡ K

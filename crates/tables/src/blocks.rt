@@ -7,10 +7,11 @@ ghost use Rattle.model.specs.Says.{node-of};
 ghost use Rattle.model.specs.Reading.{event-at, event-in, with-strand, with-order, with-non, with-uniq};
 ghost use Rattle.tables.specs.Layout.{skeleton-count, block, strand-count, order-count, non-count, uniq-count, table-size};
 ghost use Rattle.tables.specs.Tables.{byte, skeleton-in, Filled};
-ghost use Rattle.tables.specs.Stores.{event-said, EventsPut, Redrawn, Begun, Emptied};
+ghost use Rattle.tables.specs.Stores.{event-said, EventsPut, HasRoom, Redrawn, Begun, Emptied};
 use crate::BLOCK_SIZE;
 use crate::BLOCKS;
 use crate::DIRECTIONS_AT;
+use crate::HEIGHT;
 use crate::HEIGHTS_AT;
 use crate::MESSAGES_AT;
 use crate::NON_COUNT;
@@ -26,8 +27,10 @@ use crate::wide;
 use terms::Node;
 use terms::Term;
 
-// The direction of a send.
-const SEND: u8 = 0;
+// The directions.
+pub const SEND: u8 = 0;
+
+pub const RECEIVE: u8 = 1;
 
 // What a strand does at a node, where there is such a node.
 pub enum Event {
@@ -87,8 +90,8 @@ pub fn event_at(table: &[u8], k: usize, node: Node) -> Event
     if wide(table[b + HEIGHTS_AT + s]) <= p {
         return Event::Nothing;
     }
-    let message = Term(table[b + MESSAGES_AT + 16 * s + p]);
-    if table[b + DIRECTIONS_AT + 16 * s + p] == SEND {
+    let message = Term(table[b + MESSAGES_AT + HEIGHT * s + p]);
+    if table[b + DIRECTIONS_AT + HEIGHT * s + p] == SEND {
         return Event::Send(message);
     }
     Event::Reception(message)
@@ -131,14 +134,15 @@ fn put_events(table: &mut [u8], d: usize, m: usize, height: usize, rest: &[u8])
 
 // One strand more in the skeleton k: the ST record `rest`.
 pub fn put_strand(table: &mut [u8], k: usize, height: u8, rest: &[u8])
-    requires { ⌜ Filled (now table) × (k < byte (now table) skeleton-count) × (byte (now table) (block k + strand-count) < 6) × (height ≤ 16) × (3 + 2 * height ≤ length (now rest)) ⌝ }
-    ensures { λ _. ⌜ Redrawn k (with-strand (skeleton-in (now (table .entry)) k) (upto height (event-in (now (rest .entry))))) (now (table .entry)) (now (table .exit)) ⌝ }
+    requires { ⌜ HasRoom k strand-count 6 (now table) × (height ≤ 16) × (3 + 2 * height ≤ length (now rest)) ⌝ }
+    ensures { λ _. ⌜ Redrawn k (with-strand (skeleton-in (now (table .entry)) k) (upto height (event-in (now (rest .entry)))))
+        (now (table .entry)) (now (table .exit)) ⌝ }
 {
     let b = BLOCKS + BLOCK_SIZE * k;
     let count = table[b + STRAND_COUNT];
     let n = wide(count);
-    let d = b + DIRECTIONS_AT + 16 * n;
-    let m = b + MESSAGES_AT + 16 * n;
+    let d = b + DIRECTIONS_AT + HEIGHT * n;
+    let m = b + MESSAGES_AT + HEIGHT * n;
     put_events(table, d, m, height as usize, rest);
     table[b + HEIGHTS_AT + n] = height;
     table[b + STRAND_COUNT] = count + 1;
@@ -146,8 +150,9 @@ pub fn put_strand(table: &mut [u8], k: usize, height: u8, rest: &[u8])
 
 // One OR record more in the skeleton k.
 pub fn put_order(table: &mut [u8], k: usize, send: Node, reception: Node)
-    requires { ⌜ Filled (now table) × (k < byte (now table) skeleton-count) × (byte (now table) (block k + order-count) < 64) ⌝ }
-    ensures { λ _. ⌜ Redrawn k (with-order (skeleton-in (now (table .entry)) k) (node-of send) (node-of reception)) (now (table .entry)) (now (table .exit)) ⌝ }
+    requires { ⌜ HasRoom k order-count 64 (now table) ⌝ }
+    ensures { λ _. ⌜ Redrawn k (with-order (skeleton-in (now (table .entry)) k) (node-of send) (node-of reception))
+        (now (table .entry)) (now (table .exit)) ⌝ }
 {
     let b = BLOCKS + BLOCK_SIZE * k;
     let count = table[b + ORDER_COUNT];
@@ -161,8 +166,9 @@ pub fn put_order(table: &mut [u8], k: usize, send: Node, reception: Node)
 
 // One NO record more in the skeleton k.
 pub fn put_non(table: &mut [u8], k: usize, atom: Term)
-    requires { ⌜ Filled (now table) × (k < byte (now table) skeleton-count) × (byte (now table) (block k + non-count) < 32) ⌝ }
-    ensures { λ _. ⌜ Redrawn k (with-non (skeleton-in (now (table .entry)) k) (atom .0)) (now (table .entry)) (now (table .exit)) ⌝ }
+    requires { ⌜ HasRoom k non-count 32 (now table) ⌝ }
+    ensures { λ _. ⌜ Redrawn k (with-non (skeleton-in (now (table .entry)) k) (atom .0))
+        (now (table .entry)) (now (table .exit)) ⌝ }
 {
     let b = BLOCKS + BLOCK_SIZE * k;
     let count = table[b + NON_COUNT];
@@ -173,8 +179,9 @@ pub fn put_non(table: &mut [u8], k: usize, atom: Term)
 
 // One UO record more in the skeleton k.
 pub fn put_uniq(table: &mut [u8], k: usize, atom: Term)
-    requires { ⌜ Filled (now table) × (k < byte (now table) skeleton-count) × (byte (now table) (block k + uniq-count) < 32) ⌝ }
-    ensures { λ _. ⌜ Redrawn k (with-uniq (skeleton-in (now (table .entry)) k) (atom .0)) (now (table .entry)) (now (table .exit)) ⌝ }
+    requires { ⌜ HasRoom k uniq-count 32 (now table) ⌝ }
+    ensures { λ _. ⌜ Redrawn k (with-uniq (skeleton-in (now (table .entry)) k) (atom .0))
+        (now (table .entry)) (now (table .exit)) ⌝ }
 {
     let b = BLOCKS + BLOCK_SIZE * k;
     let count = table[b + UNIQ_COUNT];

@@ -1,5 +1,5 @@
-// The table that a sheet is read into: one part of memory that whoever calls lends. Where everything lies in it, and what it means, is
-// said in specs/Layout.antt and specs/Tables.antt.
+// The table that a sheet is read into: one part of memory that whoever calls lends. Where everything lies in it, and what it
+// means, is said in specs/Layout.antt and specs/Tables.antt.
 ghost use mathlib.Core.Path.{_≡_};
 
 pub mod blocks;
@@ -15,7 +15,7 @@ pub const SKELETONS: usize = 2;
 
 pub const STRANDS: usize = 6;
 
-pub const HEIGHT: u8 = 16;
+pub const HEIGHT: usize = 16;
 
 pub const ORDERS: usize = 64;
 
@@ -34,7 +34,7 @@ const SKELETON_COUNT: usize = TERM_COUNT + 1;
 
 const BLOCKS: usize = SKELETON_COUNT + 1;
 
-// Where everything lies within a block: the counts, then sixteen nodes to a strand, then the OR, NO and UO records.
+// Where everything lies within a block: the counts, the heights, a direction and a message for each node, the records.
 const STRAND_COUNT: usize = 0;
 
 const ORDER_COUNT: usize = 1;
@@ -47,9 +47,9 @@ const HEIGHTS_AT: usize = 4;
 
 const DIRECTIONS_AT: usize = HEIGHTS_AT + STRANDS;
 
-const MESSAGES_AT: usize = DIRECTIONS_AT + 16 * STRANDS;
+const MESSAGES_AT: usize = DIRECTIONS_AT + HEIGHT * STRANDS;
 
-const ORDERS_AT: usize = MESSAGES_AT + 16 * STRANDS;
+const ORDERS_AT: usize = MESSAGES_AT + HEIGHT * STRANDS;
 
 const NONS_AT: usize = ORDERS_AT + 4 * ORDERS;
 

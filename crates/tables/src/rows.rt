@@ -13,6 +13,27 @@ use crate::TERM_COUNT;
 use crate::wide;
 use terms::Term;
 
+// The kinds that a test names. Up to AKEY the first argument is just a number.
+pub const MESG: u8 = 1;
+
+pub const TEXT: u8 = 2;
+
+pub const NAME: u8 = 4;
+
+pub const AKEY: u8 = 6;
+
+pub const PUBK: u8 = 7;
+
+pub const INV: u8 = 8;
+
+pub const LTK: u8 = 9;
+
+pub const PAIR: u8 = 10;
+
+pub const ENC: u8 = 11;
+
+pub const HASH: u8 = 12;
+
 // No kind.
 const NO_KIND: u8 = 255;
 
@@ -43,13 +64,13 @@ pub fn kind_of(table: &[u8], t: Term) -> u8
     NO_KIND
 }
 
-// Whether `t` numbers an atom: kinds 2 to 9 are atoms.
+// Whether `t` numbers an atom.
 pub fn is_atom(table: &[u8], t: Term) -> bool
     requires { ⌜ Filled (now table) ⌝ }
     ensures { λ r. ⌜ r ≡ an-atom (rows-in (now (table .entry))) (t .0) ⌝ }
 {
     let kind = kind_of(table, t);
-    (2 <= kind) & (kind <= 9)
+    (TEXT <= kind) & (kind <= LTK)
 }
 
 // Whether the bytes of the row i are those of `row`.
@@ -82,13 +103,13 @@ pub fn row_right(table: &[u8], row: Row) -> bool
     let first = kind_of(table, Term(row.first));
     let second = kind_of(table, Term(row.second));
     let unused = row.second == 0;
-    (kind <= 6) & unused
-        | (kind == 7) & (first == 4) & unused
-        | (kind == 8) & ((first == 6) | (first == 7)) & unused
-        | (kind == 9) & (first == 4) & (second == 4)
-        | (kind == 10) & (first < 13) & (second < 13)
-        | (kind == 11) & (first < 13) & (second < 13) & (second != 1)
-        | (kind == 12) & (first < 13) & unused
+    (kind <= AKEY) & unused
+        | (kind == PUBK) & (first == NAME) & unused
+        | (kind == INV) & ((first == AKEY) | (first == PUBK)) & unused
+        | (kind == LTK) & (first == NAME) & (second == NAME)
+        | (kind == PAIR) & (first <= HASH) & (second <= HASH)
+        | (kind == ENC) & (first <= HASH) & (second <= HASH) & (second != MESG)
+        | (kind == HASH) & (first <= HASH) & unused
 }
 
 // One row more.

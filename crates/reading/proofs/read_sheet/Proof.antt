@@ -1,4 +1,4 @@
--- `reading::read_sheet` meets its contract. The loop’s invariant: whatever outcome reading has from here on, it has from the
+-- `reading::read_sheet` meets its contract. The loop's invariant: whatever outcome reading has from here on, it has from the
 -- start.
 -- Assumes nothing.
 use borrow.Author.Needs.{needs}
@@ -22,15 +22,18 @@ abbrev μ-loop : tie.MeasureT-loop
 
 -- a turn, where the record is good
 turn : (c : tie.After-known-told Inv-loop μ-loop)
-    → Step (c .before .before .before .before .before .before .before .before .before .before .before .before .before .before .args .bytes .now) (let l = c .before .before .before .before .before .before .before .loop in state-in (l .last) (l .table)) (c .before .before .before .before .before .before .before .loop .at) (c .before .before .before .before .before .before .before .loop .inv .0) (record-of (c .before .answer .given .0 .0) (part (c .before .before .before .before .before .before .before .before .before .before .before .before .before .before .args .bytes .now) (c .before .before .before .before .before .before .before .loop .at)))
+    → (let p = c .before .before .before .before .before .before .before in
+    let l = p .loop in
+    let b = p .before .before .before .before .before .before .before .args .bytes .now in
+    Step b (state-in (l .last) (l .table)) (l .at) (l .inv .0) (record-of (c .before .answer .given .0 .0) (part b (l .at))))
 turn c =
-    let l = c .before .before .before .before .before .before .before .loop in
+    let p = c .before .before .before .before .before .before .before in
+    let l = p .loop in
+    let b = p .before .before .before .before .before .before .before .args .bytes .now in
     step _ _ _ (l .inv .0) _
     (not-at-EN (l .table) (l .last) (c .before .before .before .before .before .before .loop-test .taken))
     (sym (c .before .before .before .read-record .ensures .same)
-    ∙ ap (λ a.
-    said-of a
-    (part (c .before .before .before .before .before .before .before .before .before .before .before .before .before .before .args .bytes .now) (l .at))) (c .before .answer .given .1))
+    ∙ ap (λ a. said-of a (part b (l .at))) (c .before .answer .given .1))
 
 pub read-sheet-spec : {M : Type 1} → statement M
 read-sheet-spec =
@@ -49,52 +52,48 @@ read-sheet-spec =
     (λ c. search needs)
     (λ c κs. search needs)
     (λ c. omega (arith, c .before .before .before .before .before .before .before .loop .inv .1 .filled .long))
-    (λ c. let l = c .before .before .before .before .before .before .before .loop in
+    (λ c. let p = c .before .before .before .before .before .before .before in
+    let l = p .loop in
+    let b = p .before .before .before .before .before .before .before .args .bytes .now in
+    let is-refused = c .before .enum-told .given .1 in
     record {
-      reads =
-          rw (c .number-of .ensures, c .before .enum-told .given .1)
+      reads = rw (c .number-of .ensures, is-refused)
           (reached-fault _ _ _ (l .inv .0) _
           (not-at-EN (l .table) (l .last) (c .before .before .before .before .before .before .loop-test .taken))
-          (sym (c .before .before .before .read-record .ensures .same)
-          ∙ ap (λ a.
-          said-of a
-          (part (c .before .before .before .before .before .before .before .before .before .before .before .before .before .before .args .bytes .now) (l .at))) (c .before .enum-told .given .1)));
+          (sym (c .before .before .before .read-record .ensures .same) ∙ ap (λ a. said-of a (part b (l .at))) is-refused));
       filled = l .inv .1 .filled;
     })
-    (λ c κs. let l = c .before .before .before .before .before .before .before .before .loop in (
-      l .inv .1 .filled,
-      room (l .last) (l .table)
-          (part (c .before .before .before .before .before .before .before .before .before .before .before .before .before .before .before .args .bytes .now) (l .at)) (l .inv .1) (c .before .before .answer .given .0 .0) (subst Whole (c .before .before .answer .given .1) (c .before .before .before .before .read-record .ensures .whole)) (turn (c .before) .tells),
-    ))
+    (λ c κs. let p = c .before .before .before .before .before .before .before .before in
+    let l = p .loop in
+    let b = p .before .before .before .before .before .before .before .args .bytes .now in
+    let said = c .before .before .answer .given in
+    let whole = subst Whole (said .1) (c .before .before .before .before .read-record .ensures .whole) in
+    (l .inv .1 .filled, room (l .last) (l .table) (part b (l .at)) (l .inv .1) (said .0 .0) whole (turn (c .before) .tells)))
     (λ c κs. search needs)
-    (λ c. omega (
-      arith,
-      c .size-of .ensures
-          (part (c .before .before .before .before .before .before .before .before .before .before .before .before .before .before .before .before .before .before .before .args .bytes .now) (c .before .before .before .before .before .before .before .before .before .before .before .before .loop .at)),
-      turn (c .before .before .before .before .before) .after-it .within,
-      c .before .before .before .before .before .before .before .before .before .before .before .before .before .before .before .before .before .before .before .good,
-    ))
-    (λ c. let t = turn (c .before .before .before .before .before) in
+    (λ c. let p = c .before .before .before .before .before .before .before .before .before .before .before .before in
+    let s = p .before .before .before .before .before .before .before in
     omega (
       arith,
-      c .size-of .ensures
-          (part (c .before .before .before .before .before .before .before .before .before .before .before .before .before .before .before .before .before .before .before .args .bytes .now) (c .before .before .before .before .before .before .before .before .before .before .before .before .loop .at)),
-      t .after-it .within,
-      t .moves,
+      c .size-of .ensures (part (s .args .bytes .now) (p .loop .at)),
+      turn (c .before .before .before .before .before) .after-it .within,
+      s .good,
     ))
-    (λ c. let k = c .before .before .before .keep .ensures in (
-      moved (k .goes-on
-          (c .before .before .before .before .before .before .before .before .before .before .before .before .loop .last))
-          (ap (λ n. c .before .before .before .before .before .before .before .before .before .before .before .before .loop .at + n)
-          (c .size-of .ensures
-          (part (c .before .before .before .before .before .before .before .before .before .before .before .before .before .before .before .before .before .before .before .args .bytes .now) (c .before .before .before .before .before .before .before .before .before .before .before .before .loop .at)))) (turn (c .before .before .before .before .before) .after-it),
+    (λ c. let p = c .before .before .before .before .before .before .before .before .before .before .before .before in
+    let s = p .before .before .before .before .before .before .before in
+    let t = turn (c .before .before .before .before .before) in
+    omega (arith, c .size-of .ensures (part (s .args .bytes .now) (p .loop .at)), t .after-it .within, t .moves))
+    (λ c. let p = c .before .before .before .before .before .before .before .before .before .before .before .before in
+    let s = p .before .before .before .before .before .before .before in
+    let k = c .before .before .before .keep .ensures in
+    let size = c .size-of .ensures (part (s .args .bytes .now) (p .loop .at)) in (
+      moved (k .goes-on (p .loop .last)) (ap (λ n. p .loop .at + n) size)
+          (turn (c .before .before .before .before .before) .after-it),
       k .underway,
     ))
     (λ c. omega (arith, c .before .before .loop .inv .1 .filled .long))
     (λ c. let l = c .before .before .loop in
     record {
-      reads = reached-more _ _ _ (l .inv .0) (at-EN (l .table) (l .last) (c .before .loop-test .left))
-          (c .if1 .taken);
+      reads = reached-more _ _ _ (l .inv .0) (at-EN (l .table) (l .last) (c .before .loop-test .left)) (c .if1 .taken);
       filled = l .inv .1 .filled;
     })
     (λ c. omega (arith, c .before .before .loop .inv .1 .filled .long))
@@ -102,6 +101,5 @@ read-sheet-spec =
     record {
       reads = rw (← sheet-is (l .last) (l .table))
           (reached-end _ _ _ (l .inv .0) (at-EN (l .table) (l .last) (c .before .loop-test .left)) (c .if1 .left));
-      filled =
-          l .inv .1 .filled;
+      filled = l .inv .1 .filled;
     }))

@@ -27,9 +27,8 @@ keep-spec =
     let room =
     rw (c .before .before .before .before .said2 .given .1) at
     (c .before .before .before .before .before .before .before .before .pre .1) in (
-      c .before .before .before .before .before .before .before .before .pre .0,
-      omega (arith, c .before .in-work .ensures),
-      in-last (room .0) _ (c .before .in-work .ensures),
+      in-last (c .before .before .before .before .before .before .before .before .pre .0) (room .0) _
+          (c .before .in-work .ensures),
       room .1,
       room .2,
     ))
@@ -39,33 +38,24 @@ keep-spec =
     (λ c κs.
     let room =
     rw (c .before .before .before .before .said3 .given .1) at
-    (c .before .before .before .before .before .before .before .before .pre .1) in (
-      c .before .before .before .before .before .before .before .before .pre .0,
-      omega (arith, c .before .in-work2 .ensures),
-      in-last room _ (c .before .in-work2 .ensures),
-    ))
+    (c .before .before .before .before .before .before .before .before .pre .1) in
+    in-last (c .before .before .before .before .before .before .before .before .pre .0) room _ (c .before .in-work2 .ensures))
     (λ c. search needs)
     (λ c κs. let room = rw (c .before .before .said4 .given .1) at (c .before .before .before .before .before .before .pre .1) in
     (c .before .before .before .before .before .before .pre .0, omega (arith, room .last)))
     (λ c κs.
     let room =
     rw (c .before .before .before .before .said4 .given .1) at
-    (c .before .before .before .before .before .before .before .before .pre .1) in (
-      c .before .before .before .before .before .before .before .before .pre .0,
-      omega (arith, c .before .in-work3 .ensures),
-      in-last room _ (c .before .in-work3 .ensures),
-    ))
+    (c .before .before .before .before .before .before .before .before .pre .1) in
+    in-last (c .before .before .before .before .before .before .before .before .pre .0) room _ (c .before .in-work3 .ensures))
     (λ c. search needs)
     (λ c κs. let room = rw (c .before .before .said5 .given .1) at (c .before .before .before .before .before .before .pre .1) in
     (c .before .before .before .before .before .before .pre .0, omega (arith, room .last)))
     (λ c κs.
     let room =
     rw (c .before .before .before .before .said5 .given .1) at
-    (c .before .before .before .before .before .before .before .before .pre .1) in (
-      c .before .before .before .before .before .before .before .before .pre .0,
-      omega (arith, c .before .in-work4 .ensures),
-      in-last room _ (c .before .in-work4 .ensures),
-    ))
+    (c .before .before .before .before .before .before .before .before .pre .1) in
+    in-last (c .before .before .before .before .before .before .before .before .pre .0) room _ (c .before .in-work4 .ensures))
     (λ c. search needs)
     (λ c. rw (c .enum-told .given .1) (edition-kept (c .before .before .before .before .pre .0)))
     (λ c. search needs)

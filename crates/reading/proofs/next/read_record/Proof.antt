@@ -1,4 +1,4 @@
--- `reading::next::read_record` meets its contract: each arm is its reader’s own.
+-- `reading::next::read_record` meets its contract: each arm is its reader's own.
 -- Assumes nothing.
 use borrow.Author.Needs.{needs}
 use mathlib.Core.Path.{refl, sym, ap, _∙_}
@@ -88,7 +88,8 @@ read-record-spec =
     (r .0 .0 .0 .0 .1) (r .0 .0 .0 .1) (r .0 .0 .1) (r .0 .1) (r .1) in
     record {
       same = no-such (c .before .before .before .before .before .args .last)
-          (c .before .before .before .before .before .args .table .now) (c .before .before .before .before .before .args .rest .now)
+          (c .before .before .before .before .before .args .table .now)
+          (c .before .before .before .before .before .args .rest .now)
           (c .before .before .if1 .left) (sym none-of ∙ c .before .read-mark .ensures);
       whole =
           tt;

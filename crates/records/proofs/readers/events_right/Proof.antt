@@ -1,4 +1,4 @@
--- `records::readers::events_right` meets its contract. The loop’s invariant: right is whether the first i events are.
+-- `records::readers::events_right` meets its contract. The loop's invariant: right is whether the first i events are.
 -- Assumes nothing.
 use borrow.Author.Needs.{needs}
 use native.Mathlib.Omega.{arith}

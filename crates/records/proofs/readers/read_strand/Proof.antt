@@ -1,6 +1,7 @@
 -- `records::readers::read_strand` meets its contract.
 -- Assumes nothing.
 use borrow.Author.Needs.{needs}
+use native.Mathlib.Omega.{arith}
 use borrow.Author.Tests.{lt-ltb, le-ltb, le-leb, lt-leb}
 use Rattle.model.specs.Reading.{read-ST}
 use Rattle.records.proofs.readers.read_strand.Statement.{statement}
@@ -14,6 +15,7 @@ read-strand-spec =
     (λ c. record { same = rw (le-ltb _ _ (c .if1 .taken)); whole = tt })
     (λ c. record { same = rw (lt-ltb _ _ (c .before .if1 .left), lt-leb _ _ (c .if2 .taken)); whole = tt })
     (λ c. search needs)
+    (λ c. omega (arith, c .shared-slice-known2 .given 2))
     (λ c. record {
       same = rw (
         lt-ltb _ _ (c .before .before .before .if1 .left),
@@ -24,16 +26,15 @@ read-strand-spec =
           tt;
     })
     (λ c. record {
-      same = rw (
-        lt-ltb _ _ (c .before .before .before .before .if1 .left),
-        le-leb _ _ (c .before .before .before .if2 .left),
-        le-leb _ _ (c .before .if3 .left),
-        lt-leb _ _ (c .if4 .taken),
-      );
-      whole =
-          tt;
+      same =
+          rw (
+            lt-ltb _ _ (c .before .before .before .before .if1 .left),
+            le-leb _ _ (c .before .before .before .if2 .left),
+            le-leb _ _ (c .before .if3 .left),
+            lt-leb _ _ (c .if4 .taken),
+          );
+      whole = tt;
     })
-    (λ c. search needs)
     (λ c. search needs)
     (λ c. search needs)
     (λ c. record {

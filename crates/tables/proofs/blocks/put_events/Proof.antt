@@ -1,4 +1,4 @@
--- `tables::blocks::put_events` meets its contract. The loop’s invariant: the first i events are in the table.
+-- `tables::blocks::put_events` meets its contract. The loop's invariant: the first i events are in the table.
 -- Assumes nothing.
 use borrow.Author.Needs.{needs}
 use native.Mathlib.Omega.{arith}

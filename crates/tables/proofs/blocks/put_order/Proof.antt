@@ -34,7 +34,7 @@ put-order-spec =
     (λ c. simp length-set (omega arith))
     (λ c. search needs)
     (λ c. let s = c .before .before .before in
-    order-put _ _ _ _ _ _ (s .args .k) (c .wide .result) (node-of (s .args .send)) (node-of (s .args .reception)) (s .pre .0)
-    (s .pre .1) (c .wide .ensures) (omega arith) (put-set _ _ _ (omega arith)) (put-set _ _ _ (simp length-set (omega arith)))
+    order-put _ _ _ _ _ _ (s .args .k) (c .wide .result) (node-of (s .args .send)) (node-of (s .args .reception)) (s .pre .filled)
+    (s .pre .there) (c .wide .ensures) (omega arith) (put-set _ _ _ (omega arith)) (put-set _ _ _ (simp length-set (omega arith)))
     (put-set _ _ _ (simp length-set (omega arith))) (put-set _ _ _ (simp length-set (omega arith)))
     (put-set _ _ _ (simp length-set (omega arith)))))

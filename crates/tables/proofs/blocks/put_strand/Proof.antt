@@ -33,6 +33,7 @@ put-strand-spec =
     (λ c. search needs)
     (λ c. let s = c .before .before .before .before .before .before .before .before in
     let w = c .before .before .before .before .wide in
-    strand-put _ _ _ _ _ (s .args .k) (w .result) (s .args .height) (s .pre .0) (s .pre .1) (w .ensures) (omega arith)
+    strand-put _ _ _ _ _ (s .args .k) (w .result) (s .args .height) (s .pre .0 .filled) (s .pre .0 .there) (w .ensures)
+    (omega arith)
     (omega arith) (c .before .before .put-events .ensures) (put-set _ _ _ (omega arith))
     (put-set _ _ _ (simp length-set (omega arith)))))

@@ -25,5 +25,6 @@ put-uniq-spec =
     (λ c. simp length-set (omega arith))
     (λ c. search needs)
     (λ c. let s = c .before .before .before in
-    uniq-put _ _ _ (s .args .k) (c .wide .result) (s .args .atom .0) (s .pre .0) (s .pre .1) (c .wide .ensures) (omega arith)
+    uniq-put _ _ _ (s .args .k) (c .wide .result) (s .args .atom .0) (s .pre .filled) (s .pre .there) (c .wide .ensures)
+    (omega arith)
     (put-set _ _ _ (omega arith)) (put-set _ _ _ (simp length-set (omega arith)))))

@@ -1,0 +1,39 @@
+-- `stranger::close` meets its contract. The loop's invariant: the set has all of the start, and only what is reached from it.
+-- The measure is how many numbers are not in the set. Assumes nothing.
+use Prim.Native.Nat.{_-_}
+use borrow.Author.Needs.{needs}
+use Rattle.terms.specs.Set.{size}
+use Rattle.stranger.specs.Moves.{Moves}
+use Rattle.stranger.specs.Steps.{Grown}
+use Rattle.stranger.proofs.Steps.{grown-none}
+use Rattle.stranger.proofs.Least.{grown-more, step-less, closure}
+use Rattle.stranger.proofs.close.Statement.{statement}
+use Rattle.stranger.proofs.close.Tie as tie
+
+abbrev Inv-loop : tie.InvT-loop
+Inv-loop table inverses set₀ set = Grown (Moves table inverses) (set₀ .words) (set .words)
+
+abbrev μ-loop : tie.MeasureT-loop
+μ-loop table inverses set₀ set = 256 - size set
+
+loop-holds : tie.Need-loop-holds Inv-loop μ-loop
+loop-holds c = grown-none _ _
+
+returns : tie.Need-returns Inv-loop μ-loop
+returns c =
+    let passed = c .before .before .before in
+    closure (passed .pass .ensures) (c .before .before .count .ensures) (c .before .count2 .ensures) (passed .before .loop .inv)
+    (c .if1 .taken)
+
+loop-less : tie.Need-loop-less Inv-loop μ-loop
+loop-less c =
+    let counted = c .before .before in
+    step-less (counted .before .pass .ensures) (counted .count .ensures) (c .before .count2 .ensures) (c .if1 .left)
+
+loop-again : tie.Need-loop-again Inv-loop μ-loop
+loop-again c = let passed = c .before .before .before in grown-more (passed .pass .ensures) (passed .before .loop .inv)
+
+pub close-spec : {M : Type 1} → statement M
+close-spec =
+    tie.close
+    (tie.spec Inv-loop μ-loop loop-holds (λ c κs. search needs) (search needs) (search needs) returns loop-less loop-again)
