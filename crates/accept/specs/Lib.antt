@@ -1,0 +1,2 @@
+-- What the contracts of `accept` cite.
+pub mod Held
