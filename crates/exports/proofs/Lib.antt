@@ -1,0 +1,2 @@
+-- From answers to words.
+pub mod Worded

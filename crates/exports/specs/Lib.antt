@@ -1,0 +1,3 @@
+-- The answers as words.
+pub mod Words
+pub mod Said
