@@ -9,15 +9,15 @@ use lib.Dec.{T, eqb, ltb, leb, lt→ltb}
 use lib.ListN.{length}
 use borrow.Author.Tests.{eq-eqb, eqb-true}
 use Rattle.terms.specs.declared.Term as Number
-use Rattle.model.specs.Term.{Asym, ltk, pubk, name, symmetric, asymmetric, Term, atom, inv, flip}
+use Rattle.model.specs.Term.{Asym, ltk, pubk, name, symmetric, asymmetric, Term, mesg, atom, inv, flip}
 use Rattle.model.specs.Carry.{Occurs, in-inverse, in-pubk, in-ltk-left, in-ltk-right}
 use Rattle.model.specs.Subst.{Subst, turned, on-sym, on-asym, on-atom, apply, Variable}
 use Rattle.model.specs.Table.{Row, Text, Datum, Name, Skey, Akey, Pubk, Inv, Ltk, row, kind, first, second, is-atom, name-of, meaning, term}
 use Rattle.model.specs.Reading.{an-atom}
 use Rattle.theory.specs.Tests.{both, pair-up}
 use Rattle.theory.specs.Parts.{occurs-after}
-use Rattle.theory.specs.Inverses.{inv-inv}
-use Rattle.theory.specs.Substituting.{Keyish, keyish-atom, inv-apply}
+use Rattle.model.specs.Laws.{inv-inv}
+use Rattle.model.specs.Laws.{inv-apply}
 use Rattle.theory.specs.GoodTable.{IsName, IsKey, an-akey, a-pubk, Earlier, Sorted}
 use Rattle.theory.specs.Numbers.{row-of, term-law, law, number, number-term, name-shown, key-shown}
 use Rattle.theory.specs.Numbers as Numbers
@@ -253,7 +253,7 @@ module _ {t images : List ℕ} (ready : Ready t images) where
       inverse-goes : (σ : Subst) → inv (apply σ (term rows key)) ≡ apply σ (term rows a)
       inverse-goes σ =
           let (y, z) = key-shown (term rows) is-key (term-law rows (ready .good) key key-low) in
-          let keyish : Keyish (term rows key) = rw z (keyish-atom _) in
+          let keyish : (n : ℕ) → term rows key ≢ mesg n = λ n e. let y : _≡_ {A = ℕ} 0 1 = cc in omega arith in
           inv-apply σ (term rows key) keyish ∙ ap (apply σ) (sym inverse-term)
 
       pub inverse-on : {inverses : List ℕ} {i : Number.Term} → Inverted rows inverses → Imaged rows images key (Image.On i)

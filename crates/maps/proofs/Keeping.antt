@@ -25,7 +25,7 @@ use Rattle.order.specs.Precedence.{on, code, Low, Shows}
 use Rattle.matching.specs.Matches.{Laid}
 use Rattle.maps.specs.Rules.{KeptTo1, Tells1}
 use Rattle.maps.specs.Drawn.{Drawn}
-use Rattle.maps.specs.Strands.{AllBelow, SameWays, StrandKept, moved-at}
+use Rattle.maps.specs.Strands.{AllBelow, SameDirections, StrandKept, moved-at}
 use Rattle.maps.proofs.Answers.{refused}
 use Rattle.maps.proofs.Nodes.{OneOf, element-at, strands-in, strands-meant, event-at, stands-at, at-stands, pair-at, pair-in, pair-of}
 
@@ -47,7 +47,7 @@ event-same f (suc c) (suc d) m n s = ne-eqb (suc c) 0 (λ e. omega arith) ∙ sy
 
 -- A strand that goes to one that is high enough
 pub strand-told : {t : List ℕ} {a b s u h : ℕ} {r : Bool} → h ≡ byte t (a + heights + s) → h ≤ byte t (b + heights + u)
-    → (r ≡ true) ↔ SameWays t (a + directions + 16 * s) (b + directions + 16 * u) h → (r ≡ true) ↔ StrandKept t a b s u
+    → (r ≡ true) ↔ SameDirections t (a + directions + 16 * s) (b + directions + 16 * u) h → (r ≡ true) ↔ StrandKept t a b s u
 strand-told e l test = (
   λ q. record { high = omega arith; same = rw e at (test .0 q) },
   λ k. test .1 (rw e (k .same)),

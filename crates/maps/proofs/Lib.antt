@@ -1,8 +1,8 @@
--- Laws that belong to no one function; and what callers of rule 6's test have to show.
+-- Laws that belong to no one function; what rule 3 leaves for the atoms, and what rule 6's test asks of origins.
 mod Answers
 mod Nodes
 mod Keeping
 mod Listed
 mod Found
-mod Sending
+pub mod Sending
 pub mod Starting

@@ -147,7 +147,7 @@ module _ {rows : List Row} (good : Good rows) (few : length rows ≤ 200) {A B :
   abbrev A′ : Skeleton Term
   A′ = means (term rows) A
 
-  gives : (σ : Subst) → Takes rows A B map σ → Gives rows images σ
+  pub gives : (σ : Subst) → Takes rows A B map σ → Gives rows images σ
   gives σ takes =
       record {
         image = λ i h k. elim (occurs-test rows good A (matched .source-on) i h) [
@@ -163,12 +163,12 @@ module _ {rows : List Row} (good : Good rows) (few : length rows ≤ 200) {A B :
   occur : AtomsOccur A′
   occur = skeleton-atoms A′ (matched .source)
 
-  known-non : {from : TermSet} → IsAtoms (A .non) from → (i : ℕ) → mem from i ≡ true → Known rows images i
+  pub known-non : {from : TermSet} → IsAtoms (A .non) from → (i : ℕ) → mem from i ≡ true → Known rows images i
   unfolding means
   known-non is i m =
       let l = is .at i .0 m in known (matched .nons i l) (occur .non (term rows i) (Memᴰ·map (term rows) l))
 
-  known-uniq : {from : TermSet} → IsAtoms (A .uniq) from → (i : ℕ) → mem from i ≡ true → Known rows images i
+  pub known-uniq : {from : TermSet} → IsAtoms (A .uniq) from → (i : ℕ) → mem from i ≡ true → Known rows images i
   unfolding means
   known-uniq is i m =
       let l = is .at i .0 m in known (matched .uniqs i l) (occur .uniq (term rows i) (Memᴰ·map (term rows) l))

@@ -25,7 +25,7 @@ module _ {rows : List Row} (good : Good rows) {K : Skeleton ℕ} (ok : OnTable r
       let (n, o, c) = starts .at i (is .at i .0 m) in
       let (e, at, _) = at-meant (term rows) K (o .at) in
       let p : n .position < 16 = ok .positions n e at in
-      omega (arith, node-inside rows good K ok at)
+      omega (arith, node-inside rows K ok at)
 
   pub origins-start : {map targets : List ℕ} → length map ≡ length (K .strands) → length origins ≡ 200 → length targets ≡ 200
       → Starts from map origins targets

@@ -14,13 +14,13 @@ pub record AllBelow (map : List ℕ) (n : ℕ) : Type 0 where
   pub at : (s : ℕ) → s < length map → getD map s 0 < n
 
 -- the n directions from i on and from j on are equal: 0 is a send, anything else a reception
-pub record SameWays (t : List ℕ) (i j n : ℕ) : Type 0 where
+pub record SameDirections (t : List ℕ) (i j n : ℕ) : Type 0 where
   pub at : (p : ℕ) → p < n → eqb (byte t (i + p)) 0 ≡ eqb (byte t (j + p)) 0
 
 -- the strand s may go to the strand u
 pub record StrandKept (t : List ℕ) (a b s u : ℕ) : Type 0 where
   pub high : byte t (a + heights + s) ≤ byte t (b + heights + u)
-  pub same : SameWays t (a + directions + 16 * s) (b + directions + 16 * u) (byte t (a + heights + s))
+  pub same : SameDirections t (a + directions + 16 * s) (b + directions + 16 * u) (byte t (a + heights + s))
 
 -- where the node at i goes
 abbrev pub moved-at : List ℕ → List ℕ → ℕ → Node

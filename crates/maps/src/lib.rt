@@ -1,8 +1,8 @@
-// The tests of map rules 1, 2, 4, 5 and 6, for the skeletons of two blocks of a table.
+// The tests of map rules 1, 2, 4, 5 and 6, for the skeletons of two blocks of a table. Rules 5 and 6 go by the images that the
+// judgement of rule 3 leaves: a byte for each term, the number of its image if the term occurs in a source event, else 255.
 ghost use mathlib.Core.Path.{_≡_};
 ghost use mathlib.Core.Bool.{true};
-ghost use mathlib.Core.Logic.{_↔_};
-ghost use mathlib.Core.Logic.{_≢_};
+ghost use mathlib.Core.Logic.{_↔_, _≢_};
 ghost use Prim.Native.Nat.{_+_, _*_, _/_, _%_, _<_, _≤_};
 ghost use lib.Dec.{eqb};
 ghost use lib.ListN.{length, getD};
@@ -13,7 +13,7 @@ ghost use Rattle.order.specs.Precedence.{on, code, Low, Shows};
 ghost use Rattle.matching.specs.Matches.{Laid};
 ghost use Rattle.maps.specs.Rules.{Tells1, Tells2, Tells4, KeptTo1, KeptTo2, IsAtoms};
 ghost use Rattle.maps.specs.Drawn.{Drawn};
-ghost use Rattle.maps.specs.Strands.{AllBelow, SameWays, StrandKept, moved-at};
+ghost use Rattle.maps.specs.Strands.{AllBelow, SameDirections, StrandKept, moved-at};
 ghost use Rattle.maps.specs.Images.{IsRow, LooksUp, Ready, Inverses, Imaged};
 ghost use Rattle.maps.specs.Atoms.{Asks, GoesIn, OriginGoes, Judges5, Judges6, Starts};
 use order::is_before;
@@ -87,19 +87,19 @@ pub fn rule_one(table: &[u8], source: usize, target: usize, map: &[u8]) -> bool
 }
 
 // Whether two directions are equal: 0 is a send, anything else a reception.
-fn same_way(a: u8, b: u8) -> bool
+fn same_direction(a: u8, b: u8) -> bool
     ensures { λ r. ⌜ (r ≡ true) ↔ (eqb a 0 ≡ eqb b 0) ⌝ }
 {
     (a == 0) == (b == 0)
 }
 
 // Whether the `height` directions from `from` on are those from `to` on.
-fn same_ways(table: &[u8], from: usize, to: usize, height: usize) -> bool
+fn same_directions(table: &[u8], from: usize, to: usize, height: usize) -> bool
     requires { ⌜ (from + height ≤ length (now table)) × (to + height ≤ length (now table)) ⌝ }
-    ensures { λ r. ⌜ (r ≡ true) ↔ SameWays (now (table .entry)) from to height ⌝ }
+    ensures { λ r. ⌜ (r ≡ true) ↔ SameDirections (now (table .entry)) from to height ⌝ }
 {
     for p in 0..height {
-        if !same_way(table[from + p], table[to + p]) {
+        if !same_direction(table[from + p], table[to + p]) {
             return false;
         }
     }
@@ -117,7 +117,7 @@ fn strand_kept(table: &[u8], source: usize, target: usize, s: usize, u: Strand) 
     if wide(table[target + HEIGHTS + to]) < height {
         return false;
     }
-    same_ways(
+    same_directions(
         table,
         source + DIRECTIONS + ROOM * s,
         target + DIRECTIONS + ROOM * to,
@@ -167,8 +167,7 @@ fn pair_kept(table: &[u8], map: &[u8], before: &[u64], at: usize) -> bool
     is_before(before, first, second)
 }
 
-// Rule 4: precedence is kept. Succession is kept by rule 2, and the target's order is transitive, so only the OR pairs are looked
-// at.
+// Rule 4: precedence is kept. Only the OR pairs are looked at: succession is kept by rule 2, and the target's order is transitive.
 pub fn rule_four(table: &[u8], source: usize, target: usize, map: &[u8], before: &[u64]) -> bool
     requires { ⌜ Drawn (now table) source × Drawn (now table) target ⌝ }
     requires { ⌜ KeptTo2 (rows-in (now table)) (skeleton-at (now table) source) (skeleton-at (now table) target) (now map) ⌝ }
@@ -259,7 +258,7 @@ fn plain_image(table: &[u8], images: &[u8], a: Term) -> Image
     named_image(table, images, a)
 }
 
-// The image of an atom, where each of its variables has one.
+// The image of an atom each of whose variables has an image.
 pub fn image_of(table: &[u8], inverses: &[u8], images: &[u8], a: Term) -> Image
     requires { ⌜ Ready (now table) (now images) × Inverses (now table) (now inverses) × (a .0 < byte (now table) term-count) ⌝ }
     ensures { λ r. ⌜ Imaged (rows-in (now (table .entry))) (now (images .entry)) (a .0) r ⌝ }

@@ -1,4 +1,4 @@
--- `maps::same_ways` meets its contract. Assumes nothing.
+-- `maps::same_directions` meets its contract. Assumes nothing.
 use mathlib.Core.Path.{_≡_}
 use Prim.Native.Nat.{ℕ, _+_, _≤_, _<_, _-_}
 use borrow.Author.Count.{below-none, below-more}
@@ -7,8 +7,8 @@ use borrow.Author.Needs.{needs}
 use lib.Dec.{eqb}
 use Rattle.tables.specs.Tables.{byte}
 use Rattle.maps.proofs.Answers.{granted, refused, was-no}
-use Rattle.maps.proofs.same_ways.Statement.{statement}
-use Rattle.maps.proofs.same_ways.Tie as tie
+use Rattle.maps.proofs.same_directions.Statement.{statement}
+use Rattle.maps.proofs.same_directions.Tie as tie
 
 abbrev Inv-loop : tie.InvT-loop
 Inv-loop table from to height p₀ p =
@@ -23,18 +23,18 @@ loop-holds c = (search needs, below-none _)
 returns : tie.Need-returns Inv-loop μ-loop
 returns c =
     let l = c .before .before .before .before .before .loop in
-    refused (λ all. was-no (c .before .same-way .ensures) (not-true _ (c .if1 .taken)) (all .at (l .p) (search needs)))
+    refused (λ all. was-no (c .before .same-direction .ensures) (not-true _ (c .if1 .taken)) (all .at (l .p) (search needs)))
 
 loop-again : tie.Need-loop-again Inv-loop μ-loop
 loop-again c =
     let l = c .before .before .before .before .before .loop in
-    (search needs, below-more _ _ (l .inv .1) (c .before .same-way .ensures .0 (not-false _ (c .if1 .left))))
+    (search needs, below-more _ _ (l .inv .1) (c .before .same-direction .ensures .0 (not-false _ (c .if1 .left))))
 
 returns-2 : tie.Need-returns-2 Inv-loop μ-loop
 returns-2 c = granted (record { at = λ p h. c .before .loop .inv .1 p (search needs) })
 
-pub same-ways-spec : {M : Type 1} → statement M
-same-ways-spec =
+pub same-directions-spec : {M : Type 1} → statement M
+same-directions-spec =
     tie.close
     (tie.spec Inv-loop μ-loop
     loop-holds (search needs) (search needs) (search needs) (search needs) (λ c κs. search needs) returns (search needs)
