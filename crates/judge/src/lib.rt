@@ -2,12 +2,17 @@
 ghost use mathlib.Core.Path.{_≡_};
 ghost use mathlib.Core.List.{[]};
 ghost use Prim.Native.Nat.{_≤_};
-ghost use Rattle.model.specs.Answers.{Gives, AskSheet};
-ghost use Rattle.model.specs.Says.{sheet-says};
-ghost use Rattle.judge.specs.Small.{SmallSheet};
+ghost use Rattle.model.specs.Answers.{Gives, AskSheet, AskWithin, AskDerivable, AskReach, AskRealized};
+ghost use Rattle.model.specs.Says.{node-of, sheet-says, yes-no-says, reach-says, realized-says};
+ghost use Rattle.judge.specs.Small.{SmallSheet, SmallYesNo, SmallReach, SmallRealized};
 use accept::Accepted;
 use accept::accept;
+use model::ReachAnswer;
+use model::RealizedAnswer;
 use model::SheetAnswer;
+use model::YesNo;
+use terms::Node;
+use terms::Term;
 
 // How many bytes and words the tables take, and where the counts of terms and skeletons stand.
 const TABLE: usize = 1646;
@@ -40,5 +45,64 @@ pub fn sheet(bytes: &[u8]) -> SheetAnswer
             terms: wide(table[TERM_COUNT]),
             skeletons: wide(table[SKELETON_COUNT]),
         },
+    }
+}
+
+// Is `t` carried only within `set` in `inside`?
+pub fn within(bytes: &[u8], t: Term, inside: Term, set: &[u8]) -> YesNo
+    ensures { λ r. ⌜ Gives (now (bytes .entry)) (AskWithin (t .0) (inside .0) (now (set .entry))) (yes-no-says r) (now (set .entry))
+        × SmallYesNo r ⌝ }
+{
+    let mut table = [0u8; TABLE];
+    let mut inverses = [0u8; INVERSES];
+    let mut before = [0u64; BEFORE];
+    let accepted = accept(bytes, &mut table, &mut inverses, &mut before);
+    match accepted {
+        Accepted::Refused(refusal) => YesNo::Refused(refusal),
+        Accepted::Good => questions::within(&table, t, inside, set),
+    }
+}
+
+// Is the term derivable before the reception?
+pub fn derivable(bytes: &[u8], skeleton: u8, node: Node, term: Term) -> YesNo
+    ensures { λ r. ⌜ Gives (now (bytes .entry)) (AskDerivable skeleton (node-of node) (term .0)) (yes-no-says r) [] × SmallYesNo r ⌝ }
+{
+    let mut table = [0u8; TABLE];
+    let mut inverses = [0u8; INVERSES];
+    let mut before = [0u64; BEFORE];
+    let accepted = accept(bytes, &mut table, &mut inverses, &mut before);
+    match accepted {
+        Accepted::Refused(refusal) => YesNo::Refused(refusal),
+        Accepted::Good => {
+            questions::derivable(&table, &inverses, &mut before, skeleton, node, term)
+        }
+    }
+}
+
+// How many of the sheet's terms are derivable before the reception?
+pub fn reach(bytes: &[u8], skeleton: u8, node: Node) -> ReachAnswer
+    ensures { λ r. ⌜ Gives (now (bytes .entry)) (AskReach skeleton (node-of node)) (reach-says r) [] × SmallReach r ⌝ }
+{
+    let mut table = [0u8; TABLE];
+    let mut inverses = [0u8; INVERSES];
+    let mut before = [0u64; BEFORE];
+    let accepted = accept(bytes, &mut table, &mut inverses, &mut before);
+    match accepted {
+        Accepted::Refused(refusal) => ReachAnswer::Refused(refusal),
+        Accepted::Good => questions::reach(&table, &inverses, &mut before, skeleton, node),
+    }
+}
+
+// Is the skeleton realized, and if not, which reception is the first that is open?
+pub fn realized(bytes: &[u8], skeleton: u8) -> RealizedAnswer
+    ensures { λ r. ⌜ Gives (now (bytes .entry)) (AskRealized skeleton) (realized-says r) [] × SmallRealized r ⌝ }
+{
+    let mut table = [0u8; TABLE];
+    let mut inverses = [0u8; INVERSES];
+    let mut before = [0u64; BEFORE];
+    let accepted = accept(bytes, &mut table, &mut inverses, &mut before);
+    match accepted {
+        Accepted::Refused(refusal) => RealizedAnswer::Refused(refusal),
+        Accepted::Good => questions::realized(&table, &inverses, &mut before, skeleton),
     }
 }

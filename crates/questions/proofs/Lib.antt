@@ -1,0 +1,3 @@
+-- What the sheet in the tables has, and what is answered then.
+mod Subjects
+mod Answering

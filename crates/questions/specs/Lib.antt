@@ -1,0 +1,2 @@
+-- What the contracts of `questions` cite.
+pub mod Subject
