@@ -24,12 +24,13 @@ prepare-requires c κs =
 reached-before-requires : tie.Need-reached-before-requires
 reached-before-requires c κs =
     let p = c .before .before .before in
+    let q = p .prepare .ensures in
     let test = p .before .before .before in
     let s = test .before .before .before .before in
     let a = s .args in
     let has = is-there (test .has-reception-and-term .ensures) (not-false _ (p .before .before .if1 .left)) in
     let drawn = is-drawn (a .table .now) (a .skeleton) (s .pre .0) (has .reception .drawing) in (
-      is-ready (a .table .now) (a .skeleton) _ (s .pre .0) (has .reception .drawing) (p .prepare .ensures .0) (p .prepare .ensures .1),
+      is-ready (a .table .now) (a .skeleton) _ (s .pre .0) (has .reception .drawing) (q .0) (q .1),
       reception-low (a .table .now) (a .skeleton) (node-of (a .node)) drawn (has .reception),
     )
 

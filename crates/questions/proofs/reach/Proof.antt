@@ -24,12 +24,13 @@ prepare-requires c κs =
 count-reached-requires : tie.Need-count-reached-requires
 count-reached-requires c κs =
     let p = c .before .before .before in
+    let q = p .prepare .ensures in
     let test = p .before .before .before in
     let s = test .before .before .before .before in
     let a = s .args in
     let has = is-there (test .has-reception .ensures) (not-false _ (p .before .before .if1 .left)) in
     let drawn = is-drawn (a .table .now) (a .skeleton) (s .pre .0) (has .drawing) in (
-      is-ready (a .table .now) (a .skeleton) _ (s .pre .0) (has .drawing) (p .prepare .ensures .0) (p .prepare .ensures .1),
+      is-ready (a .table .now) (a .skeleton) _ (s .pre .0) (has .drawing) (q .0) (q .1),
       reception-low (a .table .now) (a .skeleton) (node-of (a .node)) drawn has,
     )
 
