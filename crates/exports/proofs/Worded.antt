@@ -4,12 +4,17 @@ use mathlib.Core.List.{List, []}
 use Prim.Native.Nat.{ℕ, _%_, _≤_}
 use native.Mathlib.Omega.{arith}
 use native.Mathlib.Nat.{mod-eq-of-lt}
+use Rattle.terms.specs.declared.Node.{Node as CodeNode}
 use Rattle.model.specs.declared.Refusal.{Refusal}
 use Rattle.model.specs.declared.SheetAnswer.{SheetAnswer}
-use Rattle.model.specs.Answers.{Gives, AskSheet}
-use Rattle.model.specs.Says.{refusal-of, sheet-says}
-use Rattle.judge.specs.Small.{SmallRefusal, SmallSheet}
-use Rattle.exports.specs.Words.{word, refusal-word, sheet-word}
+use Rattle.model.specs.declared.YesNo.{YesNo}
+use Rattle.model.specs.declared.ReachAnswer.{ReachAnswer}
+use Rattle.model.specs.declared.RealizedAnswer.{RealizedAnswer}
+use Rattle.model.specs.Sheet.{Verdict}
+use Rattle.model.specs.Answers.{Answer, Gives, Openness, AskSheet}
+use Rattle.model.specs.Says.{node-of, refusal-of, sheet-says, yes-no-says, reach-says, realized-says}
+use Rattle.judge.specs.Small.{SmallRefusal, SmallSheet, SmallYesNo, SmallReach, SmallRealized}
+use Rattle.exports.specs.Words.{word, refusal-word, sheet-word, yes-no-word, count-word, realized-word}
 use Rattle.exports.specs.Said.{SaidAs}
 
 module _ {bytes : List ℕ} {a : SheetAnswer} (g : Gives bytes AskSheet (sheet-says a) [] × SmallSheet a) where
@@ -29,3 +34,55 @@ module _ {bytes : List ℕ} {a : SheetAnswer} (g : Gives bytes AskSheet (sheet-s
   pub refused-word : (r : Refusal) (w : ℕ) → a ≡ SheetAnswer.Refused r → w ≡ refusal-word (refusal-of r) → SaidAs bytes AskSheet sheet-word [] w
   unfolding sheet-says sheet-word
   refused-word r w e q = record { answer = _; gives = rw e at (g .0); is = q }
+
+-- yes, no
+pub yes-word : (a : YesNo) {w : ℕ} → a ≡ YesNo.Yes → w ≡ word 1 0 0 0 → w ≡ yes-no-word (yes-no-says a)
+unfolding yes-no-says yes-no-word
+yes-word a e q = rw e q
+
+pub no-word : (a : YesNo) {w : ℕ} → a ≡ YesNo.No → w ≡ word 2 0 0 0 → w ≡ yes-no-word (yes-no-says a)
+unfolding yes-no-says yes-no-word
+no-word a e q = rw e q
+
+pub neither-word : (a : YesNo) (r : Refusal) {w : ℕ} → a ≡ YesNo.Refused r → w ≡ refusal-word (refusal-of r) → w ≡ yes-no-word (yes-no-says a)
+unfolding yes-no-says yes-no-word
+neither-word a r e q = rw e q
+
+pub yes-no-small : (a : YesNo) (r : Refusal) → SmallYesNo a → a ≡ YesNo.Refused r → SmallRefusal r
+yes-no-small a r g e = rw e at g
+
+-- the reach
+module _ {bytes after : List ℕ} (Question : Verdict → Answer ℕ → List ℕ → Type 0) (a : ReachAnswer) (g : Gives bytes Question (reach-says a) after × SmallReach a) where
+  pub reach-low : (count : ℕ) → a ≡ ReachAnswer.Reach count → count ≤ 256
+  reach-low count e = rw e at (g .1)
+
+  pub reach-refused-low : (r : Refusal) → a ≡ ReachAnswer.Refused r → SmallRefusal r
+  reach-refused-low r e = rw e at (g .1)
+
+  pub reach-word : (count : ℕ) {w : ℕ} → a ≡ ReachAnswer.Reach count → w ≡ word 1 0 0 count → SaidAs bytes Question count-word after w
+  unfolding reach-says count-word
+  reach-word count e q = record { answer = _; gives = rw e at (g .0); is = q }
+
+  pub reach-refused-word : (r : Refusal) {w : ℕ} → a ≡ ReachAnswer.Refused r → w ≡ refusal-word (refusal-of r)
+      → SaidAs bytes Question count-word after w
+  unfolding reach-says count-word
+  reach-refused-word r e q = record { answer = _; gives = rw e at (g .0); is = q }
+
+-- realized
+module _ {bytes after : List ℕ} (Question : Verdict → Answer Openness → List ℕ → Type 0) (a : RealizedAnswer) (g : Gives bytes Question (realized-says a) after × SmallRealized a) where
+  pub realized-refused-low : (r : Refusal) → a ≡ RealizedAnswer.Refused r → SmallRefusal r
+  realized-refused-low r e = rw e at (g .1)
+
+  pub is-realized-word : {w : ℕ} → a ≡ RealizedAnswer.Realized → w ≡ word 1 0 0 0 → SaidAs bytes Question realized-word after w
+  unfolding realized-says realized-word
+  is-realized-word e q = record { answer = _; gives = rw e at (g .0); is = q }
+
+  pub open-word : (n : CodeNode) {w : ℕ} → a ≡ RealizedAnswer.Open n → w ≡ word 2 (n .strand .0) (n .position) 0
+      → SaidAs bytes Question realized-word after w
+  unfolding realized-says realized-word node-of
+  open-word n e q = record { answer = _; gives = rw e at (g .0); is = q }
+
+  pub realized-refused-word : (r : Refusal) {w : ℕ} → a ≡ RealizedAnswer.Refused r → w ≡ refusal-word (refusal-of r)
+      → SaidAs bytes Question realized-word after w
+  unfolding realized-says realized-word
+  realized-refused-word r e q = record { answer = _; gives = rw e at (g .0); is = q }

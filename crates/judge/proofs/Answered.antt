@@ -11,7 +11,7 @@ use Rattle.model.specs.declared.RealizedAnswer.{RealizedAnswer}
 use Rattle.model.specs.Skeleton.{Node}
 use Rattle.model.specs.Sheet.{Sheet, Verdict, Drawing}
 use Rattle.model.specs.Judging.{HasVerdict}
-use Rattle.model.specs.Rising.{Rising, none, more}
+use Rattle.model.specs.Rising.{Rising, more}
 use Rattle.model.specs.Answers.{Answer, answered, refused, Asked, bad-sheet, no-such, too-short, said, Gives, AskSheet, AskWithin, AskDerivable, AskReach, AskRealized}
 use Rattle.model.specs.Says.{refusal-of, yes-no-says, reach-says, realized-says}
 use Rattle.theory.specs.Upto.{length-upto}
