@@ -1,4 +1,5 @@
--- What occurs in members of a set, by one pass from the last row of a good table to the first. Assumes nothing.
+-- What occurs in members of a set, and what they carry, by one pass from the last row of a good table to the first.
+-- Assumes nothing.
 use mathlib.Core.Path.{_≡_, refl}
 use mathlib.Core.Bool.{Bool, true, false, _||_, _&&_}
 use mathlib.Core.List.{List}
@@ -11,7 +12,7 @@ use lib.ListN.{length}
 use Rattle.terms.specs.declared.TermSet.{TermSet}
 use Rattle.terms.specs.Set.{mem}
 use Rattle.terms.proofs.Words.{member-none}
-use Rattle.model.specs.Carry.{Occurs}
+use Rattle.model.specs.Carry.{Occurs, Carries}
 use Rattle.model.specs.Table.{Row, row, term}
 use Rattle.theory.specs.Tests.{both, pair-up, or-cases, or-left, or-right}
 use Rattle.theory.specs.Parts.{occurs-after}
@@ -19,20 +20,28 @@ use Rattle.theory.specs.GoodTable.{Good}
 use Rattle.theory.specs.Numbers.{number, number-term}
 use Rattle.theory.specs.OnSheet.{OnSheet}
 use Rattle.tables.specs.Tables.{byte, row-at, rows-in, Encoded, Filled}
-use Rattle.carry.specs.Next.{has-first, has-second, is-part, parts-next}
-use Rattle.carry.specs.Sets.{InMember, IsParts}
+use Rattle.carry.specs.Next.{has-first, has-second, is-part, is-carried, parts-next}
+use Rattle.carry.specs.Sets.{Shows, InMember, IsParts, CarriedIn, IsCarried}
 use Rattle.carry.proofs.Shown.{is-T, empty}
 use Rattle.carry.proofs.Rows.{rows-length, inside-in, row-in}
-use Rattle.carry.proofs.Parts.{PartOf, part-occurs, has-occurring}
+use Rattle.carry.proofs.Parts.{part-occurs, has-occurring, part-carried, has-carried, carries-after}
 
--- what the set has once the terms from i on were visited
-pub record Closing (rows : List Row) (start : TermSet) (i : ℕ) (s : TermSet) : Type 0 where
-  pub only : (k : ℕ) → T (mem s k) → (k < length rows) × InMember rows start (term rows k)
+-- what the set has once the terms from i on were visited: terms with P, and with a term its arguments with `part`
+pub record Closing (part : Row → ℕ → Bool) (P : ℕ → Type 0) (rows : List Row) (start : TermSet) (i : ℕ) (s : TermSet)
+    : Type 0 where
+  pub only : (k : ℕ) → T (mem s k) → (k < length rows) × P k
   pub takes : (j : ℕ) → i ≤ j → j < length rows → T (mem start j) → T (mem s j)
-  pub closed : (j k : ℕ) → i ≤ j → j < length rows → T (mem s j) → T (is-part (row rows j) k) → T (mem s k)
+  pub closed : (j k : ℕ) → i ≤ j → j < length rows → T (mem s j) → T (part (row rows j) k) → T (mem s k)
 
-closing-none : (rows : List Row) (start : TermSet) (n : ℕ) → length rows ≤ n → Closing rows start n empty
-closing-none rows start n most =
+-- members of the start have P, and P goes to the arguments with `part`, which come earlier
+pub record Descends (part : Row → ℕ → Bool) (P : ℕ → Type 0) (rows : List Row) (start : TermSet) : Type 0 where
+  pub begins : (j : ℕ) → j < length rows → T (mem start j) → P j
+  pub below : (j k : ℕ) → j < length rows → T (part (row rows j) k) → k < j
+  pub goes : (j k : ℕ) → j < length rows → T (part (row rows j) k) → P j → P k
+
+closing-none : (part : Row → ℕ → Bool) (P : ℕ → Type 0) (rows : List Row) (start : TermSet) (n : ℕ) → length rows ≤ n
+    → Closing part P rows start n empty
+closing-none part P rows start n most =
     record {
       only = λ k h. absurd (rw (member-none k) at h);
       takes = λ j l h. absurd (omega arith);
@@ -40,20 +49,20 @@ closing-none rows start n most =
     }
 
 -- One visit, of the term j
-module _ (rows : List Row) (good : Good rows) (start : TermSet) (i j : ℕ) (falls : i ≡ j + 1) (inside : j < length rows)
-    (s r : TermSet) (so-far : Closing rows start i s)
-    (made : (k : ℕ) → mem r k ≡ parts-next (mem start) (mem s) j (row rows j) k) where
+module _ (part : Row → ℕ → Bool) (P : ℕ → Type 0) (rows : List Row) (start : TermSet) (descends : Descends part P rows start)
+    (i j : ℕ) (falls : i ≡ j + 1) (inside : j < length rows) (s r : TermSet) (so-far : Closing part P rows start i s)
+    (made : (k : ℕ) → mem r k ≡ parts-next part (mem start) (mem s) j (row rows j) k) where
   Found : Type 0
   Found = T (mem start j || mem s j)
 
   Added : ℕ → Type 0
-  Added k = (k ≡ j) ⊎ T (is-part (row rows j) k)
+  Added k = (k ≡ j) ⊎ T (part (row rows j) k)
 
   new : (k : ℕ) → T (mem r k) → T (mem s k) ⊎ (Found × Added k)
   unfolding parts-next Found Added
   new k h =
       let so = mem start j || mem s j in
-      let p = is-part (row rows j) k in
+      let p = part (row rows j) k in
       let added : T (eqb k j || p) → (k ≡ j) ⊎ T p = λ a. ⊎-elim (λ e. inl (eqb→eq k j e)) inr (or-cases (eqb k j) p a) in
       ⊎-elim inl (λ m. let w = both so (eqb k j || p) m in inr (w .0, added (w .1)))
       (or-cases (mem s k) (so && (eqb k j || p)) (rw (made k) at h))
@@ -65,35 +74,27 @@ module _ (rows : List Row) (good : Good rows) (start : TermSet) (i j : ℕ) (fal
   added : (k : ℕ) → Found → Added k → T (mem r k)
   unfolding parts-next Found Added
   added k f a =
-      let p = is-part (row rows j) k in
+      let p = part (row rows j) k in
       let b = ⊎-elim (λ e. or-left (eqb k j) p (rw e (eqb-refl j))) (λ q. or-right (eqb k j) p q) a in
       rw (made k) (or-right (mem s k) _ (pair-up (mem start j || mem s j) (eqb k j || p) f b))
 
-  part : (k : ℕ) → T (is-part (row rows j) k) → PartOf rows j k
-  part k q = part-occurs rows good j k inside (row rows j) refl q
-
-  in-member : Found → InMember rows start (term rows j)
+  has-P : Found → P j
   unfolding Found
-  in-member f =
-      ⊎-elim (λ h. record { which = j; inside = inside; member = is-T (mem start j) .1 h; occurs = Occurs.here })
-      (λ h. so-far .only j h .1) (or-cases (mem start j) (mem s j) f)
+  has-P f = ⊎-elim (descends .begins j inside) (λ h. so-far .only j h .1) (or-cases (mem start j) (mem s j) f)
 
-  in-whole : (k : ℕ) → PartOf rows j k → InMember rows start (term rows j) → InMember rows start (term rows k)
-  in-whole k p m =
-      record { which = m .which; inside = m .inside; member = m .member; occurs = occurs-after (p .occurs) (m .occurs) }
-
-  only-next : (k : ℕ) → T (mem r k) → (k < length rows) × InMember rows start (term rows k)
+  only-next : (k : ℕ) → T (mem r k) → (k < length rows) × P k
   unfolding Added
   only-next k h =
       ⊎-elim (so-far .only k)
-      (λ w. ⊎-elim (λ e. rw e (inside, in-member (w .0)))
-      (λ q. let p = part k q in (omega (arith, p .below), in-whole k p (in-member (w .0)))) (w .1)) (new k h)
+      (λ w. ⊎-elim (λ e. rw e (inside, has-P (w .0)))
+      (λ q. (omega (arith, descends .below j k inside q), descends .goes j k inside q (has-P (w .0)))) (w .1)) (new k h)
 
   -- a term above j is not added now
   above : (k : ℕ) → j < k → T (mem r k) → T (mem s k)
   unfolding Added
   above k l h =
-      ⊎-elim (λ m. m) (λ w. ⊎-elim (λ e. absurd (omega arith)) (λ q. absurd (omega (arith, part k q .below))) (w .1)) (new k h)
+      ⊎-elim (λ m. m) (λ w. ⊎-elim (λ e. absurd (omega arith)) (λ q. absurd (omega (arith, descends .below j k inside q)))
+      (w .1)) (new k h)
 
   found : T (mem r j) → Found
   unfolding Found
@@ -104,12 +105,12 @@ module _ (rows : List Row) (good : Good rows) (start : TermSet) (i j : ℕ) (fal
   takes-next m h (yes e) l q = rw e (added j (or-left (mem start j) (mem s j) (rw e at q)) (inl refl))
   takes-next m h (no n) l q = kept m (so-far .takes m (omega arith) h q)
 
-  closed-next : (m k : ℕ) → m < length rows → Dec (m ≡ j) → j ≤ m → T (mem r m) → T (is-part (row rows m) k) → T (mem r k)
+  closed-next : (m k : ℕ) → m < length rows → Dec (m ≡ j) → j ≤ m → T (mem r m) → T (part (row rows m) k) → T (mem r k)
   unfolding Added
   closed-next m k h (yes e) l q p = added k (found (rw e at q)) (inr (rw e at p))
   closed-next m k h (no n) l q p = kept k (so-far .closed m k (omega arith) h (above m (omega arith) q) p)
 
-  closing-falls : Closing rows start j r
+  closing-falls : Closing part P rows start j r
   closing-falls =
       record {
         only = only-next;
@@ -118,53 +119,120 @@ module _ (rows : List Row) (good : Good rows) (start : TermSet) (i j : ℕ) (fal
       }
 
 -- All terms were visited
-module _ (rows : List Row) (good : Good rows) (start : TermSet) {s : TermSet} (done : Closing rows start 0 s) where
-  is-in : (k : ℕ) → k < length rows → InMember rows start (term rows k) → T (mem s k)
-  is-in k h m =
-      let n = m .which in
-      let w : T (mem s n) = done .takes n (omega arith) (m .inside) (is-T (mem start n) .0 (m .member)) in
-      let on : OnSheet rows (term rows n) = record { which = n; inside = m .inside; means = refl } in
-      let there : T (mem s (number rows (term rows n))) = rw (number-term rows good n (m .inside)) w in
-      let q = has-occurring rows good s (λ j k l. done .closed j k (omega arith) l) (m .occurs) on there in
-      rw (number-term rows good k h) at q
+module _ (rows : List Row) (good : Good rows) (start : TermSet) where
+  abbrev pub Part : ℕ → Type 0
+  Part k = InMember rows start (term rows k)
 
-  pub closing-ends : IsParts rows start s
-  closing-ends =
+  abbrev pub Carry : ℕ → Type 0
+  Carry k = CarriedIn rows start (term rows k)
+
+  parts-descend : Descends is-part Part rows start
+  parts-descend =
       record {
-        shows = record { at = λ k. (λ e. done .only k (is-T (mem s k) .0 e), λ w. is-T (mem s k) .1 (is-in k (w .0) (w .1))) };
+        begins = λ j l h. record { which = j; inside = l; member = is-T (mem start j) .1 h; occurs = Occurs.here };
+        below = λ j k l h. part-occurs rows good j k l (row rows j) refl h .below;
+        goes = λ j k l h m.
+            let p = part-occurs rows good j k l (row rows j) refl h in
+            record { which = m .which; inside = m .inside; member = m .member; occurs = occurs-after (p .occurs) (m .occurs) };
+      }
+
+  carried-descend : Descends is-carried Carry rows start
+  carried-descend =
+      record {
+        begins = λ j l h. record { which = j; inside = l; member = is-T (mem start j) .1 h; carries = Carries.here };
+        below = λ j k l h. part-carried rows good j k l (row rows j) refl h .below;
+        goes = λ j k l h m.
+            let p = part-carried rows good j k l (row rows j) refl h in
+            let c = carries-after (p .carries) (m .carries) in
+            record { which = m .which; inside = m .inside; member = m .member; carries = c };
+      }
+
+  -- a member is in the set, by the number of its term
+  there : {part : Row → ℕ → Bool} {P : ℕ → Type 0} {s : TermSet} → Closing part P rows start 0 s → (n : ℕ) → n < length rows
+      → mem start n ≡ true → T (mem s (number rows (term rows n)))
+  there done n h m = rw (number-term rows good n h) (done .takes n (omega arith) h (is-T (mem start n) .0 m))
+
+  on : (n : ℕ) → n < length rows → OnSheet rows (term rows n)
+  on n h = record { which = n; inside = h; means = refl }
+
+  shown : {part : Row → ℕ → Bool} {P : ℕ → Type 0} {s : TermSet} → Closing part P rows start 0 s
+      → ((k : ℕ) → k < length rows → P k → T (mem s (number rows (term rows k)))) → Shows (length rows) P s
+  shown {s = s} done is-in =
+      record {
+        at = λ k. (
+          λ e. done .only k (is-T (mem s k) .0 e),
+          λ w. is-T (mem s k) .1 (rw (number-term rows good k (w .0)) at (is-in k (w .0) (w .1))),
+        );
+      }
+
+  pub parts-end : {s : TermSet} → Closing is-part Part rows start 0 s → IsParts rows start s
+  parts-end {s} done =
+      record {
+        shows = shown done (λ k h m. has-occurring rows good s (λ j k l. done .closed j k (omega arith) l) (m .occurs)
+            (on (m .which) (m .inside)) (there done (m .which) (m .inside) (m .member)));
+      }
+
+  pub carried-ends : {s : TermSet} → Closing is-carried Carry rows start 0 s → IsCarried rows start s
+  carried-ends {s} done =
+      record {
+        shows = shown done (λ k h m. has-carried rows good s (λ j k l. done .closed j k (omega arith) l) (m .carries)
+            (on (m .which) (m .inside)) (there done (m .which) (m .inside) (m .member)));
       }
 
 -- The same, of a table's bytes
 
-pub begins-in : {table : List ℕ} (start : TermSet) → Filled table → Closing (rows-in table) start (byte table 600) empty
-begins-in {table} start filled = closing-none (rows-in table) start (byte table 600) (omega (arith, rows-length table))
+pub begins-in : {table : List ℕ} {part : Row → ℕ → Bool} {P : ℕ → Type 0} (start : TermSet) → Filled table
+    → Closing part P (rows-in table) start (byte table 600) empty
+begins-in {table} {part} {P} start filled =
+    closing-none part P (rows-in table) start (byte table 600) (omega (arith, rows-length table))
 
-pub falls-in : {table : List ℕ} {start : TermSet} {i : ℕ} (j : ℕ) {s : TermSet} (r : TermSet) → Filled table
-    → Good (rows-in table) → i ≡ j + 1 → j < byte table 600 → Closing (rows-in table) start i s
-    → ((k : ℕ) → mem r k ≡ parts-next (mem start) (mem s) j (row-at table j) k) → Closing (rows-in table) start j r
-falls-in {table} {start} {i} j {s} r filled good e h so-far made =
-    closing-falls (rows-in table) good start i j e (inside-in table h) s r so-far (rw (row-in table j h) made)
+module _ {table : List ℕ} {start : TermSet} {i : ℕ} (j : ℕ) {s : TermSet} (r : TermSet) (filled : Filled table)
+    (good : Good (rows-in table)) (falls : i ≡ j + 1) (below : j < byte table 600) where
+  pub parts-fall : Closing is-part (Part (rows-in table) good start) (rows-in table) start i s
+      → ((k : ℕ) → mem r k ≡ parts-next is-part (mem start) (mem s) j (row-at table j) k)
+      → Closing is-part (Part (rows-in table) good start) (rows-in table) start j r
+  parts-fall so-far made =
+      closing-falls is-part _ (rows-in table) start (parts-descend (rows-in table) good start) i j falls (inside-in table below)
+      s r so-far (rw (row-in table j below) made)
+
+  pub carried-falls : Closing is-carried (Carry (rows-in table) good start) (rows-in table) start i s
+      → ((k : ℕ) → mem r k ≡ parts-next is-carried (mem start) (mem s) j (row-at table j) k)
+      → Closing is-carried (Carry (rows-in table) good start) (rows-in table) start j r
+  carried-falls so-far made =
+      closing-falls is-carried _ (rows-in table) start (carried-descend (rows-in table) good start) i j falls
+      (inside-in table below) s r so-far (rw (row-in table j below) made)
 
 -- Three additions are one
 
-spread : (known so same has a from upto b : Bool)
-    → (known || (so && same) || ((so && has) && a) || (((so && from) && upto) && b))
-    ≡ (known || (so && (same || ((has && a) || ((from && upto) && b)))))
-spread true so same has a from upto b = refl
-spread false false same has a from upto b = refl
-spread false true true has a from upto b = refl
-spread false true false has a from upto b = refl
+spread : (known so same one a two b : Bool)
+    → (known || (so && same) || ((so && one) && a) || ((so && two) && b))
+    ≡ (known || (so && (same || ((one && a) || (two && b)))))
+spread true so same one a two b = refl
+spread false false same one a two b = refl
+spread false true true one a two b = refl
+spread false true false one a two b = refl
 
-pub parts-in : {table : List ℕ} {i : ℕ} {so : Bool} (start parts x y z : TermSet) → Encoded table i
-    → so ≡ (mem start i || mem parts i)
-    → ((k : ℕ) → mem x k ≡ (mem parts k || (so && eqb k i)))
-    → ((k : ℕ) → mem y k ≡ (mem x k || ((so && leb 7 (byte table i)) && eqb k (byte table (200 + i)))))
-    → ((k : ℕ) → mem z k ≡ (mem y k || (((so && leb 9 (byte table i)) && leb (byte table i) 11) && eqb k (byte table (400 + i)))))
-    → (k : ℕ) → mem z k ≡ parts-next (mem start) (mem parts) i (row-at table i) k
-unfolding parts-next is-part has-first has-second
-parts-in {table} {i} {so} start parts x y z e s itself one two k =
-    let kind = byte table i in
-    let a = eqb k (byte table (200 + i)) in
-    let b = eqb k (byte table (400 + i)) in
-    rw (two k, one k, itself k, ← s, e .kind-is, e .first-is, e .second-is)
-    (spread (mem parts k) so (eqb k i) (leb 7 kind) a (leb 9 kind) (leb kind 11) b)
+-- the arguments with `part` are the first, where `one` says so, and the second, where `two` does
+module _ {table : List ℕ} {i : ℕ} {so : Bool} (start parts x y z : TermSet) (e : Encoded table i)
+    (s : so ≡ (mem start i || mem parts i)) (itself : (k : ℕ) → mem x k ≡ (mem parts k || (so && eqb k i))) where
+  abbrev kind-byte : ℕ
+  kind-byte = byte table i
+
+  pub parts-in : ((k : ℕ) → mem y k ≡ (mem x k || ((so && leb 7 kind-byte) && eqb k (byte table (200 + i)))))
+      → ((k : ℕ) → mem z k ≡ (mem y k || ((so && (leb 9 kind-byte && leb kind-byte 11)) && eqb k (byte table (400 + i)))))
+      → (k : ℕ) → mem z k ≡ parts-next is-part (mem start) (mem parts) i (row-at table i) k
+  unfolding parts-next is-part has-first has-second
+  parts-in one two k =
+      rw (two k, one k, itself k, ← s, e .kind-is, e .first-is, e .second-is)
+      (spread (mem parts k) so (eqb k i) (leb 7 kind-byte) (eqb k (byte table (200 + i))) (leb 9 kind-byte && leb kind-byte 11)
+      (eqb k (byte table (400 + i))))
+
+  pub carried-in :
+      ((k : ℕ) → mem y k ≡ (mem x k || ((so && (eqb kind-byte 10 || eqb kind-byte 11)) && eqb k (byte table (200 + i)))))
+      → ((k : ℕ) → mem z k ≡ (mem y k || ((so && eqb kind-byte 10) && eqb k (byte table (400 + i)))))
+      → (k : ℕ) → mem z k ≡ parts-next is-carried (mem start) (mem parts) i (row-at table i) k
+  unfolding parts-next is-carried
+  carried-in one two k =
+      rw (two k, one k, itself k, ← s, e .kind-is, e .first-is, e .second-is)
+      (spread (mem parts k) so (eqb k i) (eqb kind-byte 10 || eqb kind-byte 11) (eqb k (byte table (200 + i))) (eqb kind-byte 10)
+      (eqb k (byte table (400 + i))))

@@ -11,19 +11,30 @@ use lib.ListN.{length}
 use Rattle.terms.specs.declared.TermSet.{TermSet}
 use Rattle.terms.specs.Set.{mem}
 use Rattle.model.specs.Term.{pubk, Atom, name, asymmetric, Term, atom, inv, flip}
-use Rattle.model.specs.Carry.{Inside, in-inverse, in-pubk, in-ltk-left, in-ltk-right, Occurs}
+use Rattle.model.specs.Carry.{Inside, in-inverse, in-pubk, in-ltk-left, in-ltk-right, Occurs, Carries}
 use Rattle.model.specs.Table.{Row, Pubk, Inv, Ltk, Pair, Enc, Hash, row, kind, first, second, name-of, meaning, term}
 use Rattle.theory.specs.Tests.{or-cases, or-left, or-right}
 use Rattle.theory.specs.GoodTable.{Good, Earlier, Sorted, IsName, IsKey}
 use Rattle.theory.specs.Numbers.{row-of, law, term-law, number, name-shown, key-shown}
 use Rattle.theory.specs.OnSheet.{OnSheet, on-pair, on-enc, on-hash, number-inside, row-at-number}
 use Rattle.theory.specs.Occurring.{occurs-on}
-use Rattle.carry.specs.Next.{has-first, has-second, is-part}
+use Rattle.carry.specs.Next.{has-first, has-second, is-part, is-carried}
 
 -- an earlier term that occurs in the term i
 pub record PartOf (rows : List Row) (i k : ℕ) : Type 0 where
   pub below : k < i
   pub occurs : Occurs (term rows k) (term rows i)
+
+-- an earlier term that the term i carries
+pub record CarriedPart (rows : List Row) (i k : ℕ) : Type 0 where
+  pub below : k < i
+  pub carries : Carries (term rows k) (term rows i)
+
+pub carries-after : {t u v : Term} → Carries t u → Carries u v → Carries t v
+carries-after p Carries.here = p
+carries-after p (Carries.left q) = Carries.left (carries-after p q)
+carries-after p (Carries.right q) = Carries.right (carries-after p q)
+carries-after p (Carries.body q) = Carries.body (carries-after p q)
 
 one-of-two : (P : ℕ → Type 0) (a b k : ℕ) → P a → P b → T (eqb k a || eqb k b) → P k
 one-of-two P a b k p q h = ⊎-elim (λ e. rw (eqb→eq k a e) p) (λ e. rw (eqb→eq k b e) q) (or-cases (eqb k a) (eqb k b) h)
@@ -69,6 +80,37 @@ module _ (rows : List Row) (good : Good rows) where
   part-occurs i k h (Hash a) e p =
       let c : a < i = rw e at (good .earlier i h) in
       the-one (PartOf rows i) a k (record { below = c; occurs = rw (law rows good i h e) (Occurs.hashed Occurs.here) }) p
+
+  pub part-carried : (i k : ℕ) → i < length rows → (r : Row) → row rows i ≡ r → T (is-carried r k) → CarriedPart rows i k
+  unfolding is-carried kind first second meaning Earlier
+  part-carried i k h (Pair a b) e p =
+      let c : (a < i) × (b < i) = rw e at (good .earlier i h) in
+      let l = law rows good i h e in
+      one-of-two (CarriedPart rows i) a b k (record { below = c .0; carries = rw l (Carries.left Carries.here) })
+      (record { below = c .1; carries = rw l (Carries.right Carries.here) }) p
+  part-carried i k h (Enc a b) e p =
+      let c : (a < i) × (b < i) = rw e at (good .earlier i h) in
+      the-one (CarriedPart rows i) a k (record { below = c .0; carries = rw (law rows good i h e) (Carries.body Carries.here) }) p
+
+  -- Of a set that has what its members carry
+  module _ (s : TermSet) (closed : (j k : ℕ) → j < length rows → T (mem s j) → T (is-carried (row rows j) k) → T (mem s k)) where
+    gives : {u : Term} (v : Term) → OnSheet rows u → T (is-carried (row-of (number rows) u) (number rows v))
+        → T (mem s (number rows u)) → T (mem s (number rows v))
+    gives {u} v on p h =
+        closed (number rows u) (number rows v) (number-inside rows good on) h (rw (row-at-number rows good on) p)
+
+    pub has-carried : {t u : Term} → Carries t u → OnSheet rows u → T (mem s (number rows u)) → T (mem s (number rows t))
+    unfolding is-carried kind first second row-of
+    has-carried Carries.here on h = h
+    has-carried (Carries.left {u} {v} o) on h =
+        has-carried o (on-pair rows good on .0)
+        (gives u on (or-left (eqb (number rows u) (number rows u)) _ (eqb-refl (number rows u))) h)
+    has-carried (Carries.right {u} {v} o) on h =
+        has-carried o (on-pair rows good on .1)
+        (gives v on (or-right (eqb (number rows v) (number rows u)) _ (eqb-refl (number rows v))) h)
+    has-carried (Carries.body {u} {k} o) on h =
+        has-carried o (on-enc rows good on .0)
+        (gives u on (or-left (eqb (number rows u) (number rows u)) false (eqb-refl (number rows u))) h)
 
   -- Of a set that has the arguments of its members
   module _ (s : TermSet) (closed : (j k : ℕ) → j < length rows → T (mem s j) → T (is-part (row rows j) k) → T (mem s k)) where

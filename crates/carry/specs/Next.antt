@@ -25,10 +25,13 @@ unfoldable pub is-part : Row → ℕ → Bool
 unfolding has-first has-second
 is-part r k = (has-first r && eqb k (first r)) || (has-second r && eqb k (second r))
 
--- whether k is among the parts after the term i, whose row is r, was visited
-unfoldable pub parts-next : (start known : ℕ → Bool) → ℕ → Row → ℕ → Bool
-unfolding is-part
-parts-next start known i r k = known k || ((start i || known i) && (eqb k i || is-part r k))
+-- whether k is an argument of the row that its term carries: either half of a pair, the body of an encryption
+unfoldable pub is-carried : Row → ℕ → Bool
+is-carried r k = ((eqb (kind r) 10 || eqb (kind r) 11) && eqb k (first r)) || (eqb (kind r) 10 && eqb k (second r))
+
+-- whether k is in the set after the term i, whose row is r, was visited and gave the arguments with `part`
+unfoldable pub parts-next : (part : Row → ℕ → Bool) → (start known : ℕ → Bool) → ℕ → Row → ℕ → Bool
+parts-next part start known i r k = known k || ((start i || known i) && (eqb k i || part r k))
 
 -- "1 to 6 are variables"
 unfoldable pub is-variable : Row → Bool

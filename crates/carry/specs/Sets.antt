@@ -38,6 +38,17 @@ pub record InMember (rows : List Row) (set : TermSet) (t : Term) : Type 0 where
 pub record IsParts (rows : List Row) (set s : TermSet) : Type 0 where
   pub shows : Shows (length rows) (λ i. InMember rows set (term rows i)) s
 
+-- a member carries the term
+pub record CarriedIn (rows : List Row) (set : TermSet) (t : Term) : Type 0 where
+  pub which : ℕ
+  pub inside : which < length rows
+  pub member : mem set which ≡ true
+  pub carries : Carries t (term rows which)
+
+-- the terms that members of the set carry
+pub record IsCarried (rows : List Row) (set s : TermSet) : Type 0 where
+  pub shows : Shows (length rows) (λ i. CarriedIn rows set (term rows i)) s
+
 pub record IsVariables (rows : List Row) (s : TermSet) : Type 0 where
   pub shows : Shows (length rows) (λ i. Variable (term rows i)) s
 

@@ -8,8 +8,8 @@ ghost use lib.Dec.{eqb};
 ghost use Rattle.terms.specs.Set.{mem};
 ghost use Rattle.theory.specs.GoodTable.{Good};
 ghost use Rattle.tables.specs.Tables.{byte, row-at, rows-in, Filled};
-ghost use Rattle.carry.specs.Next.{loose-next, parts-next, is-variable};
-ghost use Rattle.carry.specs.Sets.{IsLoose, IsCarriers, IsSetOf, AreTerms, WithinLent, IsParts, IsVariables};
+ghost use Rattle.carry.specs.Next.{loose-next, is-part, is-carried, parts-next, is-variable};
+ghost use Rattle.carry.specs.Sets.{IsLoose, IsCarriers, IsSetOf, AreTerms, WithinLent, IsParts, IsCarried, IsVariables};
 use terms::Term;
 use terms::TermSet;
 
@@ -88,13 +88,13 @@ pub fn within(table: &[u8], t: Term, inside: Term, set: &[u8]) -> bool
 // The parts so far, with the term `i` and its arguments too if it is in `start` or among them.
 fn with_parts(table: &[u8], start: TermSet, parts: TermSet, i: u8) -> TermSet
     requires { ⌜ Filled (now table) × (i < byte (now table) 600) ⌝ }
-    ensures { λ r. ⌜ ((k : ℕ) → mem r k ≡ parts-next (mem start) (mem parts) i (row-at (now (table .entry)) i) k) ⌝ }
+    ensures { λ r. ⌜ ((k : ℕ) → mem r k ≡ parts-next is-part (mem start) (mem parts) i (row-at (now (table .entry)) i) k) ⌝ }
 {
     let at = i as usize;
     let kind = table[at];
     let so = start.has(Term(i)) | parts.has(Term(i));
     let one = so & (7 <= kind);
-    let two = so & (9 <= kind) & (kind <= 11);
+    let two = so & ((9 <= kind) & (kind <= 11));
     let itself = with_if(parts, Term(i), so);
     let first = with_if(itself, Term(table[FIRSTS + at]), one);
     with_if(first, Term(table[SECONDS + at]), two)
@@ -112,6 +112,35 @@ pub fn parts_of(table: &[u8], start: TermSet) -> TermSet
         parts = with_parts(table, start, parts, i);
     }
     parts
+}
+
+// What is carried so far, with the term `i` and the arguments that it carries too if it is in `start` or among them.
+fn with_carried(table: &[u8], start: TermSet, carried: TermSet, i: u8) -> TermSet
+    requires { ⌜ Filled (now table) × (i < byte (now table) 600) ⌝ }
+    ensures { λ r. ⌜ ((k : ℕ) → mem r k ≡ parts-next is-carried (mem start) (mem carried) i (row-at (now (table .entry)) i) k) ⌝ }
+{
+    let at = i as usize;
+    let kind = table[at];
+    let so = start.has(Term(i)) | carried.has(Term(i));
+    let one = so & ((kind == 10) | (kind == 11));
+    let two = so & (kind == 10);
+    let itself = with_if(carried, Term(i), so);
+    let first = with_if(itself, Term(table[FIRSTS + at]), one);
+    with_if(first, Term(table[SECONDS + at]), two)
+}
+
+// The terms that members of `start` carry.
+pub fn carried_by(table: &[u8], start: TermSet) -> TermSet
+    requires { ⌜ Filled (now table) × Good (rows-in (now table)) ⌝ }
+    ensures { λ r. ⌜ IsCarried (rows-in (now (table .entry))) start r ⌝ }
+{
+    let mut carried = TermSet::EMPTY;
+    let mut i = table[TERM_COUNT];
+    while 0 < i {
+        i -= 1;
+        carried = with_carried(table, start, carried, i);
+    }
+    carried
 }
 
 // Whether the term `i` is a variable.

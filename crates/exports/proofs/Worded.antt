@@ -10,11 +10,12 @@ use Rattle.model.specs.declared.SheetAnswer.{SheetAnswer}
 use Rattle.model.specs.declared.YesNo.{YesNo}
 use Rattle.model.specs.declared.ReachAnswer.{ReachAnswer}
 use Rattle.model.specs.declared.RealizedAnswer.{RealizedAnswer}
+use Rattle.model.specs.declared.MapAnswer.{MapAnswer}
 use Rattle.model.specs.Sheet.{Verdict}
-use Rattle.model.specs.Answers.{Answer, Gives, Openness, AskSheet}
-use Rattle.model.specs.Says.{node-of, refusal-of, sheet-says, yes-no-says, reach-says, realized-says}
-use Rattle.judge.specs.Small.{SmallRefusal, SmallSheet, SmallYesNo, SmallReach, SmallRealized}
-use Rattle.exports.specs.Words.{word, refusal-word, sheet-word, yes-no-word, count-word, realized-word}
+use Rattle.model.specs.Answers.{Answer, Gives, Openness, Mapping, AskSheet}
+use Rattle.model.specs.Says.{node-of, refusal-of, sheet-says, yes-no-says, reach-says, realized-says, map-says}
+use Rattle.judge.specs.Small.{SmallRefusal, SmallSheet, SmallYesNo, SmallReach, SmallRealized, SmallMap}
+use Rattle.exports.specs.Words.{word, refusal-word, sheet-word, yes-no-word, count-word, realized-word, map-word}
 use Rattle.exports.specs.Said.{SaidAs}
 
 module _ {bytes : List ℕ} {a : SheetAnswer} (g : Gives bytes AskSheet (sheet-says a) [] × SmallSheet a) where
@@ -86,3 +87,20 @@ module _ {bytes after : List ℕ} (Question : Verdict → Answer Openness → Li
       → SaidAs bytes Question realized-word after w
   unfolding realized-says realized-word
   realized-refused-word r e q = record { answer = _; gives = rw e at (g .0); is = q }
+
+-- a map
+module _ {bytes after : List ℕ} (Question : Verdict → Answer Mapping → List ℕ → Type 0) (a : MapAnswer) (g : Gives bytes Question (map-says a) after × SmallMap a) where
+  pub map-refused-low : (r : Refusal) → a ≡ MapAnswer.Refused r → SmallRefusal r
+  map-refused-low r e = rw e at (g .1)
+
+  pub is-map-word : {w : ℕ} → a ≡ MapAnswer.Yes → w ≡ word 1 0 0 0 → SaidAs bytes Question map-word after w
+  unfolding map-says map-word
+  is-map-word e q = record { answer = _; gives = rw e at (g .0); is = q }
+
+  pub broken-word : (rule : ℕ) {w : ℕ} → a ≡ MapAnswer.Broken rule → w ≡ word 2 rule 0 0 → SaidAs bytes Question map-word after w
+  unfolding map-says map-word
+  broken-word rule e q = record { answer = _; gives = rw e at (g .0); is = q }
+
+  pub map-refused-word : (r : Refusal) {w : ℕ} → a ≡ MapAnswer.Refused r → w ≡ refusal-word (refusal-of r) → SaidAs bytes Question map-word after w
+  unfolding map-says map-word
+  map-refused-word r e q = record { answer = _; gives = rw e at (g .0); is = q }

@@ -2,16 +2,18 @@
 ghost use mathlib.Core.Path.{_≡_};
 ghost use mathlib.Core.List.{[]};
 ghost use Prim.Native.Nat.{_≤_, _<_};
-ghost use Rattle.model.specs.Answers.{AskSheet, AskWithin, AskDerivable, AskReach, AskRealized};
+ghost use Rattle.model.specs.Answers.{AskSheet, AskWithin, AskDerivable, AskReach, AskRealized, AskMap};
 ghost use Rattle.model.specs.Says.{refusal-of, yes-no-says};
 ghost use Rattle.judge.specs.Small.{SmallRefusal, SmallYesNo};
-ghost use Rattle.exports.specs.Words.{word, refusal-word, sheet-word, yes-no-word, count-word, realized-word};
+ghost use Rattle.exports.specs.Words.{word, refusal-word, sheet-word, yes-no-word, count-word, realized-word, map-word};
 ghost use Rattle.exports.specs.Said.{SaidAs, node-at};
 use judge::derivable;
+use judge::map;
 use judge::reach;
 use judge::realized;
 use judge::sheet;
 use judge::within;
+use model::MapAnswer;
 use model::ReachAnswer;
 use model::RealizedAnswer;
 use model::Refusal;
@@ -112,5 +114,24 @@ pub extern "C" fn judge_realized(bytes: &[u8], skeleton: u8) -> u64
         RealizedAnswer::Realized => word_of(1, 0, 0, 0),
         RealizedAnswer::Open(n) => word_of(2, n.strand.0, n.position, 0),
         RealizedAnswer::Refused(r) => refusal_word_of(r),
+    }
+}
+
+// 1 yes; 2 no, x the broken rule.
+#[no_mangle]
+pub extern "C" fn judge_map(
+    bytes: &[u8],
+    source: u8,
+    target: u8,
+    strands: &[u8],
+    images: &mut [u8],
+) -> u64
+    ensures { λ r. ⌜ SaidAs (now (bytes .entry)) (AskMap source target (now (strands .entry)) (now (images .entry))) map-word (now (images .exit)) r ⌝ }
+{
+    let answer = map(bytes, source, target, strands, images);
+    match answer {
+        MapAnswer::Yes => word_of(1, 0, 0, 0),
+        MapAnswer::Broken(rule) => word_of(2, rule, 0, 0),
+        MapAnswer::Refused(r) => refusal_word_of(r),
     }
 }

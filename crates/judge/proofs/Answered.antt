@@ -8,18 +8,19 @@ use Rattle.model.specs.declared.Refusal.{Refusal}
 use Rattle.model.specs.declared.YesNo.{YesNo}
 use Rattle.model.specs.declared.ReachAnswer.{ReachAnswer}
 use Rattle.model.specs.declared.RealizedAnswer.{RealizedAnswer}
+use Rattle.model.specs.declared.MapAnswer.{MapAnswer}
 use Rattle.model.specs.Skeleton.{Node}
 use Rattle.model.specs.Sheet.{Sheet, Verdict, Drawing}
 use Rattle.model.specs.Judging.{HasVerdict}
 use Rattle.model.specs.Rising.{Rising, more}
-use Rattle.model.specs.Answers.{Answer, answered, refused, Asked, bad-sheet, no-such, too-short, said, Gives, AskSheet, AskWithin, AskDerivable, AskReach, AskRealized}
-use Rattle.model.specs.Says.{refusal-of, yes-no-says, reach-says, realized-says}
+use Rattle.model.specs.Answers.{Answer, answered, refused, Asked, bad-sheet, no-such, too-short, said, Gives, AskSheet, AskWithin, AskDerivable, AskReach, AskRealized, AskMap}
+use Rattle.model.specs.Says.{refusal-of, yes-no-says, reach-says, realized-says, map-says}
 use Rattle.theory.specs.Upto.{length-upto}
 use Rattle.theory.specs.Lengths.{verdict-places}
 use Rattle.tables.specs.Tables.{byte, row-at, rows-of, skeleton-in, sheet-in, Filled}
 use Rattle.accept.specs.declared.Accepted.{Accepted}
 use Rattle.accept.specs.Held.{AcceptedAs, Held}
-use Rattle.judge.specs.Small.{SmallYesNo, SmallReach, SmallRealized}
+use Rattle.judge.specs.Small.{SmallYesNo, SmallReach, SmallRealized, SmallMap}
 
 pub was-refused : {bytes t inverses : List ℕ} {a : Accepted} (r : Refusal) → AcceptedAs bytes t inverses a → a ≡ Accepted.Refused r
     → HasVerdict bytes (Verdict.refused (refusal-of r))
@@ -153,3 +154,16 @@ unfolding AskRealized realized-says
 realized-small k after s RealizedAnswer.Realized q = tt
 realized-small k after s (RealizedAnswer.Open n) q = tt
 realized-small k after s (RealizedAnswer.Refused r) q = asked-small r q refl
+
+-- map
+pub map-refused : {bytes t inverses : List ℕ} {a : Accepted} (k j : ℕ) (m lent : List ℕ) (r : Refusal) → AcceptedAs bytes t inverses a
+    → a ≡ Accepted.Refused r
+    → Gives bytes (AskMap k j m lent) (refused (refusal-of r)) lent
+unfolding AskMap
+map-refused k j m lent r h e = refuses _ _ _ lent r h e
+
+pub map-small : (k j : ℕ) (m lent after : List ℕ) (s : Sheet) (r : MapAnswer) → AskMap k j m lent (Verdict.accepted s) (map-says r) after → SmallMap r
+unfolding AskMap map-says
+map-small k j m lent after s MapAnswer.Yes q = tt
+map-small k j m lent after s (MapAnswer.Broken rule) q = tt
+map-small k j m lent after s (MapAnswer.Refused r) q = asked-small r q refl

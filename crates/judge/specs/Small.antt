@@ -5,6 +5,7 @@ use Rattle.model.specs.declared.SheetAnswer.{SheetAnswer}
 use Rattle.model.specs.declared.YesNo.{YesNo}
 use Rattle.model.specs.declared.ReachAnswer.{ReachAnswer}
 use Rattle.model.specs.declared.RealizedAnswer.{RealizedAnswer}
+use Rattle.model.specs.declared.MapAnswer.{MapAnswer}
 
 -- a refusal's place lies in the longest sheet, or at its end
 abbrev pub SmallRefusal : Refusal → Type 0
@@ -27,3 +28,8 @@ abbrev pub SmallRealized : RealizedAnswer → Type 0
 SmallRealized RealizedAnswer.Realized = Unit {0}
 SmallRealized (RealizedAnswer.Open n) = Unit {0}
 SmallRealized (RealizedAnswer.Refused r) = SmallRefusal r
+
+abbrev pub SmallMap : MapAnswer → Type 0
+SmallMap MapAnswer.Yes = Unit {0}
+SmallMap (MapAnswer.Broken rule) = Unit {0}
+SmallMap (MapAnswer.Refused r) = SmallRefusal r

@@ -2,11 +2,12 @@
 ghost use mathlib.Core.Path.{_≡_};
 ghost use mathlib.Core.List.{[]};
 ghost use Prim.Native.Nat.{_≤_};
-ghost use Rattle.model.specs.Answers.{Gives, AskSheet, AskWithin, AskDerivable, AskReach, AskRealized};
-ghost use Rattle.model.specs.Says.{node-of, sheet-says, yes-no-says, reach-says, realized-says};
-ghost use Rattle.judge.specs.Small.{SmallSheet, SmallYesNo, SmallReach, SmallRealized};
+ghost use Rattle.model.specs.Answers.{Gives, AskSheet, AskWithin, AskDerivable, AskReach, AskRealized, AskMap};
+ghost use Rattle.model.specs.Says.{node-of, sheet-says, yes-no-says, reach-says, realized-says, map-says};
+ghost use Rattle.judge.specs.Small.{SmallSheet, SmallYesNo, SmallReach, SmallRealized, SmallMap};
 use accept::Accepted;
 use accept::accept;
+use model::MapAnswer;
 use model::ReachAnswer;
 use model::RealizedAnswer;
 use model::SheetAnswer;
@@ -104,5 +105,22 @@ pub fn realized(bytes: &[u8], skeleton: u8) -> RealizedAnswer
     match accepted {
         Accepted::Refused(refusal) => RealizedAnswer::Refused(refusal),
         Accepted::Good => questions::realized(&table, &inverses, &mut before, skeleton),
+    }
+}
+
+// Is the strand map a map from one skeleton to another, with which images, and which is the first broken rule?
+pub fn map(bytes: &[u8], source: u8, target: u8, map: &[u8], images: &mut [u8]) -> MapAnswer
+    ensures { λ r. ⌜ Gives (now (bytes .entry)) (AskMap source target (now (map .entry)) (now (images .entry))) (map-says r) (now (images .exit))
+        × SmallMap r ⌝ }
+{
+    let mut table = [0u8; TABLE];
+    let mut inverses = [0u8; INVERSES];
+    let mut before = [0u64; BEFORE];
+    let accepted = accept(bytes, &mut table, &mut inverses, &mut before);
+    match accepted {
+        Accepted::Refused(refusal) => MapAnswer::Refused(refusal),
+        Accepted::Good => {
+            mapping::map(&table, &inverses, &mut before, source, target, map, images)
+        }
     }
 }

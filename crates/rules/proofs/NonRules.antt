@@ -2,20 +2,22 @@
 use mathlib.Core.Path.{_≡_, refl, sym, _∙_}
 use mathlib.Core.Bool.{Bool, true, false, not, _&&_, true≢false}
 use mathlib.Core.List.{List}
-use mathlib.Core.Logic.{_↔_, Iff·trans}
+use mathlib.Core.Logic.{_↔_}
 use Prim.Native.Nat.{ℕ, _<_}
 use lib.Dec.{eqb}
 use lib.ListN.{length}
 use borrow.Author.Tests.{not-true}
 use Rattle.terms.specs.declared.TermSet.{TermSet}
 use Rattle.terms.specs.Set.{mem}
+use Rattle.model.specs.Table.{term}
 use Rattle.model.specs.Sheet.{meant}
+use Rattle.model.specs.Accepting.{Carried}
 use Rattle.theory.specs.Deciding.{Below, dec-below}
 use Rattle.tables.specs.Tables.{byte, rows-in, skeleton-at}
-use Rattle.carry.specs.Sets.{IsCarriers, IsParts}
+use Rattle.carry.specs.Sets.{IsParts}
 use Rattle.carry.proofs.Rows.{inside-in}
-use Rattle.rules.specs.Judged.{MissingAs, CarriedAs, NonAs, NonDue}
-use Rattle.rules.proofs.Transfer.{Both, bool-false, carried-iff, lost-iff}
+use Rattle.rules.specs.Judged.{drawing-at, Ready, Heard, MissingAs, NonAs, NonDue}
+use Rattle.rules.proofs.Transfer.{bool-false, carried-iff, lost-iff}
 
 true-test : (b : Bool) → Dec (b ≡ true)
 true-test true = yes refl
@@ -45,31 +47,6 @@ module _ (s : TermSet) (e : Bool) (n : ℕ) (low : (k : ℕ) → mem s k ≡ tru
       go true q = absurd (true≢false (sym m ∙ empty .0 q k))
 
 module _ (t : List ℕ) (a : ℕ) where
-  -- D is what carries the atom among the messages M, and e says whether it is empty
-  module _ (C M D : TermSet) (e : Bool) (carriers : IsCarriers (rows-in t) a C)
-      (common : (k : ℕ) → mem D k ≡ (mem C k && mem M k)) (empty : (e ≡ true) ↔ ((k : ℕ) → mem D k ≡ false)) where
-    in-both : (k : ℕ) → mem D k ≡ true → (mem C k ≡ true) × (mem M k ≡ true)
-    in-both k m = and-both (mem C k) (mem M k) (sym (common k) ∙ m)
-
-    in-rows : (k : ℕ) → mem D k ≡ true → k < length (rows-in t)
-    in-rows k m = carriers .shows .at k .0 (in-both k m .0) .0
-
-    some-both : (not e ≡ true) ↔ Both C M
-    some-both = (
-      λ h. let w = has-some D e (length (rows-in t)) in-rows empty h in
-          let (l, r) = in-both (w .which) (w .holds) in
-          record { which = w .which; left = l; right = r },
-      λ w. some-has D e (length (rows-in t)) in-rows empty (w .which) (common (w .which) ∙ rw (w .left, w .right)),
-    )
-
-    pub carried-as : CarriedAs t M a (not e)
-    unfolding meant
-    carried-as =
-        record {
-          at = λ b ready messages. Iff·trans some-both
-              (carried-iff (rows-in t) (ready .good) (skeleton-at t b) (ready .on-table) a C M carriers messages);
-        }
-
   -- F is what of the parts of the atom is a variable and not in H, and e says whether it is empty
   module _ (inside : a < byte t 600) (one P X H D F : TermSet) (e : Bool) (alone : (k : ℕ) → mem one k ≡ eqb k a)
       (parts : IsParts (rows-in t) one P)
@@ -91,8 +68,8 @@ module _ (t : List ℕ) (a : ℕ) where
     unfolding meant
     missing-as =
         record {
-          at = λ b M ready heard.
-              let same = lost-iff (rows-in t) (ready .good) (skeleton-at t b) (ready .on-table) M (heard .messages) a
+          at = λ b C ready heard.
+              let same = lost-iff (rows-in t) (ready .good) (skeleton-at t b) (ready .on-table) (heard .said) (heard .messages) a
               (inside-in t inside) one P X H alone parts (heard .variables) (heard .heard) in (
                 λ h. let w = has-some F e (length (rows-in t)) in-terms empty h in
                     let k = w .which in
@@ -107,18 +84,25 @@ module _ (t : List ℕ) (a : ℕ) where
 
 -- The refusal that the atom is due
 
-module _ {t : List ℕ} {M H X : TermSet} {a : ℕ} where
-  pub non-missing : {r : Bool} → MissingAs t H X a r → r ≡ true → NonDue t M H X a 14
-  non-missing m h = record { at = λ b ready heard. NonAs.missing (m .at b M ready heard .0 h) }
+module _ {t : List ℕ} {C H X : TermSet} {a : ℕ} (inside : a < byte t 600) where
+  is-carried : (b : ℕ) → Ready t b → Heard t b C H X
+      → (mem C a ≡ true) ↔ Carried (meant (drawing-at t b)) (term (rows-in t) a)
+  unfolding meant
+  is-carried b ready heard =
+      carried-iff (rows-in t) (ready .good) (skeleton-at t b) (ready .on-table) a (inside-in t inside) C (heard .said)
+      (heard .carried) (heard .messages)
 
-  pub non-carried : {r : Bool} → CarriedAs t M a r → r ≡ true → NonDue t M H X a 11
-  non-carried c h = record { at = λ b ready heard. NonAs.carried (c .at b ready (heard .messages) .0 h) }
+  pub non-missing : {r : Bool} → MissingAs t H X a r → r ≡ true → NonDue t C H X a 14
+  non-missing m h = record { at = λ b ready heard. NonAs.missing (m .at b C ready heard .0 h) }
 
-  pub non-fine : {q r : Bool} → MissingAs t H X a q → q ≡ false → CarriedAs t M a r → r ≡ false → NonDue t M H X a 0
-  non-fine m present c uncarried =
+  pub non-carried : mem C a ≡ true → NonDue t C H X a 11
+  non-carried h = record { at = λ b ready heard. NonAs.carried (is-carried b ready heard .0 h) }
+
+  pub non-fine : {q : Bool} → MissingAs t H X a q → q ≡ false → mem C a ≡ false → NonDue t C H X a 0
+  non-fine m present uncarried =
       record {
         at = λ b ready heard. NonAs.fine (record {
-          present = λ w. true≢false (sym (m .at b M ready heard .1 w) ∙ present);
-          uncarried = λ w. true≢false (sym (c .at b ready (heard .messages) .1 w) ∙ uncarried);
+          present = λ w. true≢false (sym (m .at b C ready heard .1 w) ∙ present);
+          uncarried = λ w. true≢false (sym (is-carried b ready heard .1 w) ∙ uncarried);
         });
       }

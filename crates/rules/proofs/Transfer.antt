@@ -21,13 +21,8 @@ use Rattle.theory.specs.OnSheet.{OnSheet}
 use Rattle.theory.specs.Occurring.{occurs-on}
 use Rattle.theory.specs.OnTable.{OnTable}
 use Rattle.theory.specs.Happenings.{send-means, message-means}
-use Rattle.carry.specs.Sets.{IsCarriers, IsParts, IsVariables, InMember}
+use Rattle.carry.specs.Sets.{IsCarriers, IsCarried, IsParts, IsVariables, InMember}
 use Rattle.origin.specs.Marked.{FirstSent, IsMessages, node}
-
-pub record Both (s r : TermSet) : Type 0 where
-  pub which : ℕ
-  pub left : mem s which ≡ true
-  pub right : mem r which ≡ true
 
 pub bool-false : (b : Bool) → ¬ (b ≡ true) → b ≡ false
 bool-false true n = absurd (n refl)
@@ -52,26 +47,31 @@ module _ (rows : List Row) (good : Good rows) (K : Skeleton ℕ) (ok : OnTable r
       record { event = e; at = b; says-it = back (says e) ∙ ap message q }
 
   -- 11: some message carries the atom
-  module _ (t : ℕ) (C M : TermSet) (carriers : IsCarriers rows t C) (messages : IsMessages K M) where
-    pub carried-iff : Both C M ↔ Carried L (term rows t)
+  module _ (t : ℕ) (inside : t < length rows) (C M : TermSet) (carried : IsCarried rows M C) (messages : IsMessages K M) where
+    pub carried-iff : (mem C t ≡ true) ↔ Carried L (term rows t)
     carried-iff = (there, back-again)
       where
-        there : Both C M → Carried L (term rows t)
-        there b =
-            let (n, e, a, q) = messages .only (b .which) (b .right) in
-            let c : Carries (term rows t) (term rows (b .which)) = carriers .shows .at (b .which) .0 (b .left) .1 in
+        there : mem C t ≡ true → Carried L (term rows t)
+        there h =
+            let w = carried .shows .at t .0 h .1 in
+            let (n, e, a, q) = messages .only (w .which) (w .member) in
+            let c : Carries (term rows t) (term rows (w .which)) = w .carries in
             record { node = n; event = on-message (term rows) e; at = at-means (term rows) K a; carries = rw (says e, q) c }
 
-        back-again : Carried L (term rows t) → Both C M
+        back-again : Carried L (term rows t) → mem C t ≡ true
         back-again c =
             let e = event-of (c .at) in
             let m : ℕ = message (e .event) in
             let l : m < length rows = ok .messages _ _ (e .at) in
-            record {
-              which = m;
-              left = carriers .shows .at m .1 (l, rw (e .says-it) (c .carries));
-              right = messages .has _ _ (e .at);
-            }
+            carried .shows .at t .1 (
+              inside,
+              record {
+                which = m;
+                inside = l;
+                member = messages .has _ _ (e .at);
+                carries = rw (e .says-it) (c .carries);
+              },
+            )
 
   -- what occurs in some event occurs in some message
   module _ (M : TermSet) (messages : IsMessages K M) where

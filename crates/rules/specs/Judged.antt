@@ -15,7 +15,7 @@ use Rattle.theory.specs.GoodTable.{Good}
 use Rattle.theory.specs.OnTable.{OnTable}
 use Rattle.tables.specs.Layout.{table-size, block-size}
 use Rattle.tables.specs.Tables.{rows-in, skeleton-at, Block, Filled}
-use Rattle.carry.specs.Sets.{IsParts, IsVariables}
+use Rattle.carry.specs.Sets.{IsCarried, IsParts, IsVariables}
 use Rattle.origin.specs.Marked.{IsMessages}
 use Rattle.order.specs.Precedence.{on, code}
 use Rattle.rules.specs.declared.Fault.{Fault}
@@ -32,10 +32,12 @@ pub record Ready (t : List ℕ) (b : ℕ) : Type 0 where
   pub block : Block t b
   pub on-table : OnTable (rows-in t) (skeleton-at t b)
 
--- the messages of the events, what occurs in them, and the variables of the table
-pub record Heard (t : List ℕ) (b : ℕ) (M H X : TermSet) : Type 0 where
-  pub messages : IsMessages (skeleton-at t b) M
-  pub heard : IsParts (rows-in t) M H
+-- what the messages of the events carry, what occurs in them, and the variables of the table
+pub record Heard (t : List ℕ) (b : ℕ) (C H X : TermSet) : Type 0 where
+  pub said : TermSet
+  pub messages : IsMessages (skeleton-at t b) said
+  pub carried : IsCarried (rows-in t) said C
+  pub heard : IsParts (rows-in t) said H
   pub variables : IsVariables (rows-in t) X
 
 -- the set of the atoms of a list
@@ -76,15 +78,11 @@ module _ (D : Drawing) where
 -- What an answer about the term a says, of each skeleton of the table t that the sets belong to
 module _ (t : List ℕ) where
   pub record MissingAs (H X : TermSet) (a : ℕ) (r : Bool) : Type 0 where
-    pub at : (b : ℕ) (M : TermSet) → Ready t b → Heard t b M H X
+    pub at : (b : ℕ) (C : TermSet) → Ready t b → Heard t b C H X
         → (r ≡ true) ↔ Missing (meant (drawing-at t b)) (term (rows-in t) a)
 
-  pub record CarriedAs (M : TermSet) (a : ℕ) (r : Bool) : Type 0 where
-    pub at : (b : ℕ) → Ready t b → IsMessages (skeleton-at t b) M
-        → (r ≡ true) ↔ Carried (meant (drawing-at t b)) (term (rows-in t) a)
-
-  pub record NonDue (M H X : TermSet) (a r : ℕ) : Type 0 where
-    pub at : (b : ℕ) → Ready t b → Heard t b M H X → NonAs (drawing-at t b) a r
+  pub record NonDue (C H X : TermSet) (a r : ℕ) : Type 0 where
+    pub at : (b : ℕ) → Ready t b → Heard t b C H X → NonAs (drawing-at t b) a r
 
 -- whether every reception with a marked message comes after the node
 module _ (K : Skeleton ℕ) (marks : ℕ → Bool) (before : List ℕ) (n : Node) where

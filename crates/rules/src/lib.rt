@@ -10,7 +10,7 @@ ghost use Rattle.theory.specs.GoodTable.{Good};
 ghost use Rattle.tables.specs.Layout.{strand-count, block-size, table-size};
 ghost use Rattle.tables.specs.Tables.{byte, rows-in, atoms-at, skeleton-at, Filled, Block};
 ghost use Rattle.order.specs.Precedence.{Low, Shows, Ordered};
-ghost use Rattle.rules.specs.Judged.{drawing-at, Ready, IsAtoms, MissingAs, CarriedAs, NonDue, NonsAs, ArriveAs, ArrivesAs};
+ghost use Rattle.rules.specs.Judged.{drawing-at, Ready, IsAtoms, MissingAs, NonDue, NonsAs, ArriveAs, ArrivesAs};
 ghost use Rattle.rules.specs.Judged.{UniqAs, UniqsTurn, UniqsAs, JudgedAs};
 use origin::At;
 use origin::Origins;
@@ -69,23 +69,15 @@ fn missing(table: &[u8], t: Term, heard: TermSet, variables: TermSet) -> bool
     !parts.common(variables).minus(heard).is_empty()
 }
 
-// Whether one of the messages carries `t`.
-fn carried(table: &[u8], t: Term, messages: TermSet) -> bool
+// The refusal that `t` is due as an NO atom, 0 for none. `carried` has what messages carry, `heard` what occurs in them.
+fn judge_non(table: &[u8], t: Term, carried: TermSet, heard: TermSet, variables: TermSet) -> u8
     requires { ⌜ Filled (now table) × Good (rows-in (now table)) × (t .0 < byte (now table) 600) ⌝ }
-    ensures { λ r. ⌜ CarriedAs (now (table .entry)) messages (t .0) r ⌝ }
-{
-    !carry::carriers(table, t).common(messages).is_empty()
-}
-
-// The refusal that `t` is due as an NO atom, 0 for none.
-fn judge_non(table: &[u8], t: Term, messages: TermSet, heard: TermSet, variables: TermSet) -> u8
-    requires { ⌜ Filled (now table) × Good (rows-in (now table)) × (t .0 < byte (now table) 600) ⌝ }
-    ensures { λ r. ⌜ NonDue (now (table .entry)) messages heard variables (t .0) r ⌝ }
+    ensures { λ r. ⌜ NonDue (now (table .entry)) carried heard variables (t .0) r ⌝ }
 {
     if missing(table, t, heard, variables) {
         return 14;
     }
-    if carried(table, t, messages) {
+    if carried.has(t) {
         return 11;
     }
     0
@@ -98,12 +90,13 @@ fn judge_nons(table: &[u8], block: usize, nons: TermSet) -> Fault
     ensures { λ r. ⌜ NonsAs (drawing-at (now (table .entry)) block) r ⌝ }
 {
     let messages = origin::messages(table, block);
+    let carried = carry::carried_by(table, messages);
     let heard = carry::parts_of(table, messages);
     let variables = carry::variables(table);
     let n = table[TERM_COUNT];
     for i in 0..n {
         if nons.has(Term(i)) {
-            let number = judge_non(table, Term(i), messages, heard, variables);
+            let number = judge_non(table, Term(i), carried, heard, variables);
             if number != 0 {
                 return Fault::Found { number, place: i };
             }

@@ -3,12 +3,17 @@ use mathlib.Core.Path.{_≡_}
 use Prim.Native.Nat.{_≤_, _-_}
 use borrow.Author.Needs.{needs}
 use Rattle.tables.specs.Tables.{byte, rows-in}
-use Rattle.carry.proofs.Closing.{Closing, begins-in, falls-in, closing-ends}
+use Rattle.model.specs.Table.{term}
+use Rattle.carry.specs.Next.{is-part}
+use Rattle.carry.specs.Sets.{InMember}
+use Rattle.carry.proofs.Closing.{Closing, begins-in, parts-fall, parts-end}
 use Rattle.carry.proofs.parts_of.Statement.{statement}
 use Rattle.carry.proofs.parts_of.Tie as tie
 
 abbrev Inv-loop : tie.InvT-loop
-Inv-loop table start parts₀ i₀ parts i = (i ≤ byte table 600) × Closing (rows-in table) start i parts
+Inv-loop table start parts₀ i₀ parts i =
+    (i ≤ byte table 600)
+    × Closing is-part (λ k. InMember (rows-in table) start (term (rows-in table) k)) (rows-in table) start i parts
 
 abbrev μ-loop : tie.MeasureT-loop
 μ-loop table start parts₀ i₀ parts i = i
@@ -20,12 +25,12 @@ loop-again : tie.Need-loop-again Inv-loop μ-loop
 loop-again c =
     let p = c .before .before .before .before .before .pre in
     let l = c .before .before .loop in
-    (search needs, falls-in (l .i - 1) _ (p .0) (p .1) (search needs) (search needs) (l .inv .1) (c .with-parts .ensures))
+    (search needs, parts-fall (l .i - 1) _ (p .0) (p .1) (search needs) (search needs) (l .inv .1) (c .with-parts .ensures))
 
 returns : tie.Need-returns Inv-loop μ-loop
 returns c =
     let e : c .before .loop .i ≡ 0 = search needs in
-    closing-ends _ (c .before .before .before .before .pre .1) _ (rw e at (c .before .loop .inv .1))
+    parts-end _ (c .before .before .before .before .pre .1) _ (rw e at (c .before .loop .inv .1))
 
 pub parts-of-spec : {M : Type 1} → statement M
 parts-of-spec =

@@ -12,19 +12,21 @@ use Rattle.rules.proofs.judge_nons.Statement.{statement}
 use Rattle.rules.proofs.judge_nons.Tie as tie
 
 abbrev Inv-loop : tie.InvT-loop
-Inv-loop table block nons messages heard variables n i₀ i =
-    (i ≤ n) × Heard table block messages heard variables
+Inv-loop table block nons carried heard variables n i₀ i =
+    (i ≤ n) × Heard table block carried heard variables
     × Passed (NonRight (drawing-at table block)) (skeleton-at table block .non) i
 
 abbrev μ-loop : tie.MeasureT-loop
-μ-loop table block nons messages heard variables n i₀ i = n - i
+μ-loop table block nons carried heard variables n i₀ i = n - i
 
 loop-holds : tie.Need-loop-holds Inv-loop μ-loop
 loop-holds c =
     let parts = c .before .before in (
       search needs,
       record {
-        messages = parts .before .messages .ensures;
+        said = parts .before .before .messages .result;
+        messages = parts .before .before .messages .ensures;
+        carried = parts .before .carried-by .ensures;
         heard = parts .parts-of .ensures;
         variables = c .before .variables .ensures;
       },
@@ -35,7 +37,7 @@ returns : tie.Need-returns Inv-loop μ-loop
 returns c =
     let at = c .before .before .before in
     let l = at .before .before .loop in
-    let start = at .before .before .before .before .before .before .before .before in
+    let start = at .before .before .before .before .before .before .before .before .before in
     let due = c .before .judge-non .ensures .at (start .args .block) (start .pre .0) (l .inv .1) in
     let listed = start .pre .1 .at (l .i) .0 (sym (at .has .ensures) ∙ c .before .before .if1 .taken) in
     non-faulty due (c .if2 .taken) (start .pre .2) listed (l .inv .2)
@@ -43,7 +45,7 @@ returns c =
 loop-again : tie.Need-loop-again Inv-loop μ-loop
 loop-again c =
     let l = c .before .before .before .loop in
-    let start = c .before .before .before .before .before .before .before .before .before in
+    let start = c .before .before .before .before .before .before .before .before .before .before in
     let passed = ⊎-elim
     (λ w. passed-more (l .inv .2) (non-right (w .1 .ensures .at (start .args .block) (start .pre .0) (l .inv .1)) (w .2 .left)))
     (λ w. passed-over (l .inv .2) (start .pre .1) (sym (c .before .has .ensures) ∙ w .left))
@@ -52,7 +54,7 @@ loop-again c =
 
 returns-2 : tie.Need-returns-2 Inv-loop μ-loop
 returns-2 c =
-    nons-fine (c .before .before .before .before .before .before .before .pre .0) (c .before .loop .inv .2) (search needs)
+    nons-fine (c .before .before .before .before .before .before .before .before .pre .0) (c .before .loop .inv .2) (search needs)
 
 pub judge-nons-spec : {M : Type 1} → statement M
 judge-nons-spec =
@@ -60,6 +62,7 @@ judge-nons-spec =
     (tie.spec
     Inv-loop
     μ-loop
+    (λ c κs. search needs)
     (λ c κs. search needs)
     (λ c κs. search needs)
     (λ c κs. search needs)

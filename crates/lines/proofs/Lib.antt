@@ -1,0 +1,5 @@
+-- Laws that belong to no one function.
+pub mod Puts
+pub mod Digits
+pub mod Smalls
+pub mod Parting

@@ -1,0 +1,3 @@
+-- What the contracts of `list` cite.
+pub mod Candidates
+pub mod Found
