@@ -21,7 +21,7 @@ use Rattle.theory.specs.Numbers.{number, number-term}
 use Rattle.theory.specs.OnSheet.{OnSheet}
 use Rattle.tables.specs.Tables.{byte, row-at, rows-in, Encoded, Filled}
 use Rattle.carry.specs.Next.{has-first, has-second, is-part, is-carried, parts-next}
-use Rattle.carry.specs.Sets.{Shows, InMember, IsParts, CarriedIn, IsCarried}
+use Rattle.carry.specs.Sets.{Shows, EndsBy, InMember, IsParts, CarriedIn, IsCarried}
 use Rattle.carry.proofs.Shown.{is-T, empty}
 use Rattle.carry.proofs.Rows.{rows-length, inside-in, row-in}
 use Rattle.carry.proofs.Parts.{part-occurs, has-occurring, part-carried, has-carried, carries-after}
@@ -39,13 +39,13 @@ pub record Descends (part : Row → ℕ → Bool) (P : ℕ → Type 0) (rows : L
   pub below : (j k : ℕ) → j < length rows → T (part (row rows j) k) → k < j
   pub goes : (j k : ℕ) → j < length rows → T (part (row rows j) k) → P j → P k
 
-closing-none : (part : Row → ℕ → Bool) (P : ℕ → Type 0) (rows : List Row) (start : TermSet) (n : ℕ) → length rows ≤ n
-    → Closing part P rows start n empty
-closing-none part P rows start n most =
+closing-none : (part : Row → ℕ → Bool) (P : ℕ → Type 0) (rows : List Row) (start : TermSet) (n : ℕ)
+    → EndsBy (length rows) n start → Closing part P rows start n empty
+closing-none part P rows start n ends =
     record {
       only = λ k h. absurd (rw (member-none k) at h);
-      takes = λ j l h. absurd (omega arith);
-      closed = λ j k l h. absurd (omega arith);
+      takes = λ j l h m. absurd (rw (ends .none j l h) at m);
+      closed = λ j k l h m. absurd (rw (member-none j) at m);
     }
 
 -- One visit, of the term j
@@ -181,10 +181,14 @@ module _ (rows : List Row) (good : Good rows) (start : TermSet) where
 
 -- The same, of a table's bytes
 
-pub begins-in : {table : List ℕ} {part : Row → ℕ → Bool} {P : ℕ → Type 0} (start : TermSet) → Filled table
-    → Closing part P (rows-in table) start (byte table 600) empty
-begins-in {table} {part} {P} start filled =
-    closing-none part P (rows-in table) start (byte table 600) (omega (arith, rows-length table))
+pub begins-at : {table : List ℕ} {part : Row → ℕ → Bool} {P : ℕ → Type 0} (start : TermSet) {top : ℕ} → Filled table
+    → EndsBy (byte table 600) top start → Closing part P (rows-in table) start top empty
+begins-at {table} {part} {P} start {top} filled ends =
+    closing-none part P (rows-in table) start top (rw (rows-length table) ends)
+
+-- no term is as late as the count
+pub ends-last : (n : ℕ) (start : TermSet) → EndsBy n n start
+ends-last n start = record { none = λ k l h. absurd (omega arith) }
 
 module _ {table : List ℕ} {start : TermSet} {i : ℕ} (j : ℕ) {s : TermSet} (r : TermSet) (filled : Filled table)
     (good : Good (rows-in table)) (falls : i ≡ j + 1) (below : j < byte table 600) where

@@ -1,9 +1,9 @@
 -- Sets of term numbers that say which terms have a property.
 use mathlib.Core.Path.{_≡_}
-use mathlib.Core.Bool.{true}
+use mathlib.Core.Bool.{true, false}
 use mathlib.Core.List.{List, List·Memᴰ}
 use mathlib.Core.Logic.{_↔_}
-use Prim.Native.Nat.{ℕ, _<_}
+use Prim.Native.Nat.{ℕ, _≤_, _<_}
 use lib.ListN.{length}
 use Rattle.terms.specs.declared.TermSet.{TermSet}
 use Rattle.terms.specs.Set.{mem}
@@ -26,6 +26,10 @@ pub record IsLoose (rows : List Row) (set : TermSet) (t : ℕ) (s : TermSet) : T
 -- the terms that carry t
 pub record IsCarriers (rows : List Row) (t : ℕ) (s : TermSet) : Type 0 where
   pub shows : Shows (length rows) (λ i. Carries (term rows t) (term rows i)) s
+
+-- of the numbers below n, the set has none from `top` on
+pub record EndsBy (n top : ℕ) (s : TermSet) : Type 0 where
+  pub none : (k : ℕ) → top ≤ k → k < n → mem s k ≡ false
 
 -- the term occurs in a member
 pub record InMember (rows : List Row) (set : TermSet) (t : Term) : Type 0 where

@@ -3,13 +3,14 @@
 ghost use mathlib.Core.Path.{_≡_};
 ghost use mathlib.Core.Bool.{true, _||_, _&&_};
 ghost use mathlib.Core.Logic.{_↔_};
-ghost use Prim.Native.Nat.{ℕ, _<_};
+ghost use Prim.Native.Nat.{ℕ, _≤_, _<_};
 ghost use lib.Dec.{eqb};
 ghost use Rattle.terms.specs.Set.{mem};
 ghost use Rattle.theory.specs.GoodTable.{Good};
 ghost use Rattle.tables.specs.Tables.{byte, row-at, rows-in, Filled};
 ghost use Rattle.carry.specs.Next.{loose-next, is-part, is-carried, parts-next, is-variable};
-ghost use Rattle.carry.specs.Sets.{IsLoose, IsCarriers, IsSetOf, AreTerms, WithinLent, IsParts, IsCarried, IsVariables};
+ghost use Rattle.carry.specs.Sets.{IsLoose, IsCarriers, IsSetOf, AreTerms, WithinLent};
+ghost use Rattle.carry.specs.Sets.{EndsBy, IsParts, IsCarried, IsVariables};
 use terms::Term;
 use terms::TermSet;
 
@@ -100,18 +101,27 @@ fn with_parts(table: &[u8], start: TermSet, parts: TermSet, i: u8) -> TermSet
     with_if(first, Term(table[SECONDS + at]), two)
 }
 
-// The terms that occur in members of `start`.
-pub fn parts_of(table: &[u8], start: TermSet) -> TermSet
-    requires { ⌜ Filled (now table) × Good (rows-in (now table)) ⌝ }
+// The terms that occur in members of `start`, which has no term from `top` on.
+pub fn parts_below(table: &[u8], start: TermSet, top: u8) -> TermSet
+    requires { ⌜ Filled (now table) × Good (rows-in (now table)) × (top ≤ byte (now table) 600)
+        × EndsBy (byte (now table) 600) top start ⌝ }
     ensures { λ r. ⌜ IsParts (rows-in (now (table .entry))) start r ⌝ }
 {
     let mut parts = TermSet::EMPTY;
-    let mut i = table[TERM_COUNT];
+    let mut i = top;
     while 0 < i {
         i -= 1;
         parts = with_parts(table, start, parts, i);
     }
     parts
+}
+
+// The terms that occur in members of `start`.
+pub fn parts_of(table: &[u8], start: TermSet) -> TermSet
+    requires { ⌜ Filled (now table) × Good (rows-in (now table)) ⌝ }
+    ensures { λ r. ⌜ IsParts (rows-in (now (table .entry))) start r ⌝ }
+{
+    parts_below(table, start, table[TERM_COUNT])
 }
 
 // What is carried so far, with the term `i` and the arguments that it carries too if it is in `start` or among them.

@@ -7,7 +7,8 @@ use Prim.Native.Nat.{ℕ, _<_, _≤_}
 use native.Mathlib.Omega.{arith}
 use lib.ListN.{length}
 use Rattle.model.specs.Sheet.{Verdict, Drawing, meant}
-use Rattle.model.specs.Answers.{Answer, Mapping, is-map, breaks, refused, answered, refusal, no-such, too-short, said, HasSkeletons, ImageRoom, yes-map, no-map, AskMap}
+use Rattle.model.specs.Answers.{Answer, Mapping, is-map, breaks, refused, answered, refusal, no-such, too-short, said}
+use Rattle.model.specs.Answers.{HasSkeletons, ImageRoom, yes-map, no-map, AskMap}
 use Rattle.theory.specs.GoodTable.{Good}
 use Rattle.tables.specs.Layout.{block, skeleton-count, term-count}
 use Rattle.tables.specs.Tables.{byte, rows-in, skeleton-in, sheet-in}
@@ -76,7 +77,8 @@ module _ (t : List ℕ) (source target : ℕ) (map lent : List ℕ) where
   pair =
       (record { rows = rows-in t; skeleton = skeleton-in t source }, record { rows = rows-in t; skeleton = skeleton-in t target })
 
-  module _ {a b : Bool} (from : (a ≡ true) ↔ (source < byte t skeleton-count)) (to : (b ≡ true) ↔ (target < byte t skeleton-count)) where
+  module _ {a b : Bool} (from : (a ≡ true) ↔ (source < byte t skeleton-count))
+      (to : (b ≡ true) ↔ (target < byte t skeleton-count)) where
     pub lacks-one : {says : Answer Mapping} → (a && b) ≡ false → says ≡ refused (refusal 15) → Ask says lent
     unfolding AskMap
     lacks-one e is =

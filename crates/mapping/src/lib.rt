@@ -262,8 +262,8 @@ pub fn map(
     images: &mut [u8],
 ) -> MapAnswer
     requires { ⌜ Stored (now table) (now inverses) × AtomsListed (now table) × (length (now before) ≡ 192) ⌝ }
-    ensures { λ r. ⌜ AskMap source target (now (map .entry)) (now (images .entry)) (Verdict.accepted (sheet-in (now (table .entry))))
-        (map-says r) (now (images .exit)) ⌝ }
+    ensures { λ r. ⌜ AskMap source target (now (map .entry)) (now (images .entry))
+        (Verdict.accepted (sheet-in (now (table .entry)))) (map-says r) (now (images .exit)) ⌝ }
 {
     if !(has_skeleton(table, source) & has_skeleton(table, target)) {
         return refuse(15);

@@ -3,10 +3,11 @@ use mathlib.Core.Path.{_≡_, refl, sym, _∙_}
 use mathlib.Core.Bool.{Bool, true, false, not, _&&_, true≢false}
 use mathlib.Core.List.{List}
 use mathlib.Core.Logic.{_↔_}
-use Prim.Native.Nat.{ℕ, _<_}
+use Prim.Native.Nat.{ℕ, _+_, _<_}
+use native.Mathlib.Omega.{arith}
 use lib.Dec.{eqb}
 use lib.ListN.{length}
-use borrow.Author.Tests.{not-true}
+use borrow.Author.Tests.{not-true, ne-eqb}
 use Rattle.terms.specs.declared.TermSet.{TermSet}
 use Rattle.terms.specs.Set.{mem}
 use Rattle.model.specs.Table.{term}
@@ -14,7 +15,7 @@ use Rattle.model.specs.Sheet.{meant}
 use Rattle.model.specs.Accepting.{Carried}
 use Rattle.theory.specs.Deciding.{Below, dec-below}
 use Rattle.tables.specs.Tables.{byte, rows-in, skeleton-at}
-use Rattle.carry.specs.Sets.{IsParts}
+use Rattle.carry.specs.Sets.{EndsBy, IsParts}
 use Rattle.carry.proofs.Rows.{inside-in}
 use Rattle.rules.specs.Judged.{drawing-at, Ready, Heard, MissingAs, NonAs, NonDue}
 use Rattle.rules.proofs.Transfer.{bool-false, carried-iff, lost-iff}
@@ -45,6 +46,10 @@ module _ (s : TermSet) (e : Bool) (n : ℕ) (low : (k : ℕ) → mem s k ≡ tru
       go : (b : Bool) → e ≡ b → not b ≡ true
       go false q = refl
       go true q = absurd (true≢false (sym m ∙ empty .0 q k))
+
+-- a set of one term ends by the next
+pub one-ends : (n a : ℕ) (one : TermSet) → ((k : ℕ) → mem one k ≡ eqb k a) → EndsBy n (a + 1) one
+one-ends n a one alone = record { none = λ k l h. alone k ∙ ne-eqb k a (λ e. omega arith) }
 
 module _ (t : List ℕ) (a : ℕ) where
   -- F is what of the parts of the atom is a variable and not in H, and e says whether it is empty

@@ -65,7 +65,7 @@ fn missing(table: &[u8], t: Term, heard: TermSet, variables: TermSet) -> bool
     requires { ⌜ Filled (now table) × Good (rows-in (now table)) × (t .0 < byte (now table) 600) ⌝ }
     ensures { λ r. ⌜ MissingAs (now (table .entry)) heard variables (t .0) r ⌝ }
 {
-    let parts = carry::parts_of(table, TermSet::one(t));
+    let parts = carry::parts_below(table, TermSet::one(t), t.0 + 1);
     !parts.common(variables).minus(heard).is_empty()
 }
 

@@ -5,13 +5,14 @@ mod proved;
 
 use std::process::ExitCode;
 
+use sheets::judge::lent;
 use sheets::protocols;
 use sheets::{generate, questions, Question};
 
 /// How often each question was answered with each tag, and refused with each number.
 #[derive(Default)]
 struct Counts {
-    answered: [[u64; 3]; 5],
+    answered: [[u64; 3]; 6],
     refused: [u64; 17],
 }
 
@@ -90,15 +91,36 @@ fn ask(sheet: &[u8], question: &Question) -> Option<(usize, u64, u64)> {
         Question::Realized { skeleton: k } => {
             (4, proved::realized(sheet, *k), second::realized(sheet, *k))
         }
-        _ => return None,
+        Question::Map {
+            source,
+            target,
+            map,
+            lent: length,
+        } => ask_map(sheet, (*source, *target), map, *length),
+        Question::List { .. } => return None,
     })
+}
+
+/// The map question with lent memory between canaries: where the memory differs, or a canary is gone, the words differ too.
+fn ask_map(sheet: &[u8], ends: (u8, u8), map: &[u8], length: usize) -> (usize, u64, u64) {
+    const CANARY: usize = 64;
+    let mut ours = lent(length + 2 * CANARY);
+    let mut theirs = lent(length + 2 * CANARY);
+    let place = CANARY..CANARY + length;
+    let word = proved::map(sheet, ends.0, ends.1, map, &mut ours[place.clone()]);
+    let other = second::map(sheet, ends.0, ends.1, map, &mut theirs[place]);
+    if ours == theirs {
+        (5, word, other)
+    } else {
+        (5, word, u64::MAX)
+    }
 }
 
 impl Counts {
     /// Prints how often each answer occurs; false if one never does.
     fn report(&self, count: u64) -> bool {
-        let names = ["sheet", "within", "derivable", "reach", "realized"];
-        let two = [false, true, true, false, true];
+        let names = ["sheet", "within", "derivable", "reach", "realized", "map"];
+        let two = [false, true, true, false, true, true];
         println!("{count} sheets and the real protocols compared, no answer differs");
         let mut all = true;
         for (kind, name) in names.iter().enumerate() {
@@ -106,7 +128,7 @@ impl Counts {
             println!("{name:10} answered 1: {one:6}, 2: {other:6}");
             all &= one > 0 && (other > 0 || !two[kind]);
         }
-        for number in 1..=15 {
+        for number in 1..=16 {
             println!("refused {number:2}: {}", self.refused[number]);
             all &= self.refused[number] > 0;
         }

@@ -6,7 +6,7 @@ use Rattle.tables.specs.Tables.{byte, rows-in}
 use Rattle.model.specs.Table.{term}
 use Rattle.carry.specs.Next.{is-carried}
 use Rattle.carry.specs.Sets.{CarriedIn}
-use Rattle.carry.proofs.Closing.{Closing, begins-in, carried-falls, carried-ends}
+use Rattle.carry.proofs.Closing.{Closing, begins-at, ends-last, carried-falls, carried-ends}
 use Rattle.carry.proofs.carried_by.Statement.{statement}
 use Rattle.carry.proofs.carried_by.Tie as tie
 
@@ -19,7 +19,7 @@ abbrev μ-loop : tie.MeasureT-loop
 μ-loop table start carried₀ i₀ carried i = i
 
 loop-holds : tie.Need-loop-holds Inv-loop μ-loop
-loop-holds c = (search needs, begins-in _ (c .before .before .pre .0))
+loop-holds c = (search needs, begins-at _ (c .before .before .pre .0) (ends-last _ _))
 
 loop-again : tie.Need-loop-again Inv-loop μ-loop
 loop-again c =

@@ -1,6 +1,6 @@
 -- `mapping::fill_origins` meets its contract: the bytes of the terms that were passed are filled in. Assumes nothing.
 use mathlib.Core.Path.{_≡_}
-use Prim.Native.Nat.{_≤_, _-_}
+use Prim.Native.Nat.{_≤_, _<_, _-_}
 use native.Mathlib.Omega.{arith}
 use lib.ListN.{length, length-set}
 use borrow.Author.Needs.{needs}
@@ -23,7 +23,9 @@ loop-holds c = (search needs, search needs, starts-none)
 loop-again : tie.Need-loop-again Inv-loop μ-loop
 loop-again c =
     let l = c .before .before .loop in
-    (search needs, simp length-set (l .inv .1), starts-more (omega (arith, l .inv .1, c .before .before .before .before .before .before .pre .0 .filled .terms)) (l .inv .2) (c .member-origin .ensures))
+    let s = c .before .before .before .before .before .before in
+    let h : l .a < length (l .origins) = omega (arith, l .inv .1, s .pre .0 .filled .terms) in
+    (search needs, simp length-set (l .inv .1), starts-more h (l .inv .2) (c .member-origin .ensures))
 
 returns : tie.Need-returns Inv-loop μ-loop
 returns c =

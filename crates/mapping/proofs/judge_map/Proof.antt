@@ -53,14 +53,16 @@ images c = c .matches .last .1 .1 .1 .1 .1 .0
 abbrev start-3 : tie.Else3 → tie.Start
 start-3 c = start-2 (c .before .before .before .before .before)
 
-found : (c : tie.Else3) → let s = start-3 c in Matches (rows s) (A s) (B s) (bytes s) (images (c .before .before .before)) true
+found : (c : tie.Else3) → let s = start-3 c in
+    Matches (rows s) (A s) (B s) (bytes s) (images (c .before .before .before)) true
 found c = was-matched (c .before .before .before .matches .ensures .0) (not-false _ (c .if3 .left))
 
 -- Rules 1 and 2
 
 returns : tie.Need-returns
 returns c =
-    (breaks-1 _ _ _ _ _ (c .before .rule-one .ensures) (not-true _ (c .if1 .taken)), c .before .before .before .before .before .before .before .before .before .pre .1)
+    let s = c .before .before .before .before .before .before .before .before .before in
+    (breaks-1 _ _ _ _ _ (c .before .rule-one .ensures) (not-true _ (c .if1 .taken)), s .pre .1)
 
 rule-two-requires : tie.Need-rule-two-requires
 rule-two-requires c κs = let p = start-1 c .pre .0 .asked in ((p .source, p .target), kept-1 c)
@@ -109,7 +111,8 @@ rule-five-requires c κs =
     let p = start-3 passed .pre .0 .asked in
     (images-ready p (passed .before .before .before .matches .ensures .1), p .inverses-are)
 
-told-5 : (c : tie.After-rule-five) → let s = start-3 (c .before .before .before .before) in Tells5 (rows s) (A s) (B s) (bytes s) (c .rule-five .result)
+told-5 : (c : tie.After-rule-five) → let s = start-3 (c .before .before .before .before) in
+    Tells5 (rows s) (A s) (B s) (bytes s) (c .rule-five .result)
 told-5 c =
     let passed = c .before .before .before .before in
     let p = start-3 passed .pre .0 in

@@ -40,5 +40,5 @@ returns c =
 pub write-images-spec : {M : Type 1} → statement M
 write-images-spec =
     tie.close
-    (tie.spec Inv-loop μ-loop (λ c κs. search needs) (search needs) loop-holds (λ c κs. search needs) (search needs) (search needs)
-    (search needs) (search needs) loop-again (search needs) returns)
+    (tie.spec Inv-loop μ-loop (λ c κs. search needs) (search needs) loop-holds (λ c κs. search needs) (search needs)
+    (search needs) (search needs) (search needs) loop-again (search needs) returns)
