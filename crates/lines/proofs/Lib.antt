@@ -1,5 +1,4 @@
 -- Laws that belong to no one function.
 pub mod Puts
 pub mod Digits
-pub mod Smalls
 pub mod Parting

@@ -2,13 +2,13 @@
 use mathlib.Core.Path.{_≡_, refl, sym}
 use mathlib.Core.List.{List, [], _∷_, _++_, append-assoc}
 use Prim.Native.Nat.{ℕ, suc, _+_, _≤_, _<_}
-use native.Mathlib.Nat.{le-refl, zero-add, add-assoc}
+use native.Mathlib.Nat.{le-refl, add-assoc}
 use native.Mathlib.Numerals.{add-one}
 use native.Mathlib.Omega.{arith}
 use lib.ListN.{length, take, drop, getD, set, length-append}
 use lib.Seq.{set-split, take-suc, drop-drop, append-snoc, take-length, paste, take-paste, drop-paste, length-paste, paste-zero}
 use Rattle.model.specs.Lines.{decimal}
-use Rattle.lines.specs.Written.{Put, Counted, Wrote}
+use Rattle.lines.specs.Written.{Put, Counted, Line}
 
 pub put-none : {l : List ℕ} {at : ℕ} → at ≤ length l → Put l at [] l at
 put-none {l} {at} h = record { bytes = paste-zero l at []; next = omega arith; room = h }
@@ -57,13 +57,18 @@ pub counted : {most : ℕ} {l : List ℕ} {at : ℕ} {text : List ℕ} {n : ℕ}
     → length (decimal n) ≤ most → Put l at (text ++ decimal n) l₁ r → Counted most l at text n l₁ r
 counted {text} {n} h p = record { put = p; short = omega (arith, length-append text (decimal n)) }
 
-pub wrote : {l text l₁ : List ℕ} {r : ℕ} → Put l 0 text l₁ r → Wrote text l l₁ r
-wrote {text} p = record { bytes = rw zero-add at (p .bytes); count = omega arith; room = p .room }
+-- a line of two texts with their numbers, and its end; and one of three
+pub line-of-two :
+    {most a b : ℕ} {l : List ℕ} {at : ℕ} {t : List ℕ} {n : ℕ} {l₁ : List ℕ} {r₁ : ℕ} {u : List ℕ} {m : ℕ} {l₂ : List ℕ} {r₂ : ℕ}
+    {end l₃ : List ℕ} {r₃ : ℕ}
+    → Counted a l at t n l₁ r₁ → Counted b l₁ r₁ u m l₂ r₂ → Put l₂ r₂ end l₃ r₃ → length t + a + length u + b + length end ≤ most
+    → Line most l at (t ++ decimal n ++ u ++ decimal m ++ end) l₃ r₃
+line-of-two p q e h = record { put = put-after (then-number (p .put) q) e; short = omega (arith, e .next) }
 
--- a line of three texts with their numbers, and its end
 pub line-of-three :
-    {a b c : ℕ} {l t : List ℕ} {n : ℕ} {l₁ : List ℕ} {r₁ : ℕ} {u : List ℕ} {m : ℕ} {l₂ : List ℕ} {r₂ : ℕ} {v : List ℕ} {k : ℕ}
-    {l₃ : List ℕ} {r₃ : ℕ} {end l₄ : List ℕ} {r₄ : ℕ}
-    → Counted a l 0 t n l₁ r₁ → Counted b l₁ r₁ u m l₂ r₂ → Counted c l₂ r₂ v k l₃ r₃ → Put l₃ r₃ end l₄ r₄
-    → Wrote (t ++ decimal n ++ u ++ decimal m ++ v ++ decimal k ++ end) l l₄ r₄
-line-of-three p q s e = wrote (put-after (then-number (then-number (p .put) q) s) e)
+    {most a b c : ℕ} {l : List ℕ} {at : ℕ} {t : List ℕ} {n : ℕ} {l₁ : List ℕ} {r₁ : ℕ} {u : List ℕ} {m : ℕ} {l₂ : List ℕ} {r₂ : ℕ}
+    {v : List ℕ} {k : ℕ} {l₃ : List ℕ} {r₃ : ℕ} {end l₄ : List ℕ} {r₄ : ℕ}
+    → Counted a l at t n l₁ r₁ → Counted b l₁ r₁ u m l₂ r₂ → Counted c l₂ r₂ v k l₃ r₃ → Put l₃ r₃ end l₄ r₄
+    → length t + a + length u + b + length v + c + length end ≤ most
+    → Line most l at (t ++ decimal n ++ u ++ decimal m ++ v ++ decimal k ++ end) l₄ r₄
+line-of-three p q s e h = record { put = put-after (then-number (then-number (p .put) q) s) e; short = omega (arith, e .next) }

@@ -1,10 +1,10 @@
-// The lines of the bench program, each written into a lent buffer.
+// The lines of the bench program, each written into a lent buffer from a place on.
 ghost use mathlib.Core.List.{[], _∷_};
-ghost use Prim.Native.Nat.{_+_, _≤_, _<_};
+ghost use Prim.Native.Nat.{_+_, _*_, _≤_, _<_};
 ghost use lib.ListN.{length};
 ghost use Rattle.model.specs.Lines.{decimal, sheet-line, maps-line, map-line};
 ghost use Rattle.model.specs.Says.{sheet-says, realized-says, list-says};
-ghost use Rattle.lines.specs.Written.{Put, Counted, Wrote, Small, good-line, told-line, gap};
+ghost use Rattle.lines.specs.Written.{Put, Counted, Line, told-line, gap};
 use model::ListAnswer;
 use model::RealizedAnswer;
 use model::SheetAnswer;
@@ -68,25 +68,19 @@ fn put_large(out: &mut [u8], at: usize, text: &[u8], n: usize) -> usize
     put_counted(out, at, text, n)
 }
 
-// "sheet good terms 9 skeletons 2"
-fn good_line(terms: usize, skeletons: usize, out: &mut [u8]) -> usize
-    requires { ⌜ (64 ≤ length (now out)) × (terms < 100000) × (skeletons < 100000) ⌝ }
-    ensures { λ r. ⌜ Wrote (good-line terms skeletons) (now (out .entry)) (now (out .exit)) r ⌝ }
-{
-    let at = put_counted(out, 0, b"sheet good terms ", terms);
-    let at = put_counted(out, at, b" skeletons ", skeletons);
-    put_text(out, at, b"\n")
-}
-
 // "sheet good terms 9 skeletons 2", or "sheet refused N place P skeleton K"
-pub fn sheet_line(answer: SheetAnswer, out: &mut [u8]) -> usize
-    requires { ⌜ (64 ≤ length (now out)) × Small (sheet-says answer) ⌝ }
-    ensures { λ r. ⌜ Wrote (sheet-line (sheet-says answer)) (now (out .entry)) (now (out .exit)) r ⌝ }
+pub fn sheet_line(answer: SheetAnswer, out: &mut [u8], at: usize) -> usize
+    requires { ⌜ at + 72 ≤ length (now out) ⌝ }
+    ensures { λ r. ⌜ Line 72 (now (out .entry)) at (sheet-line (sheet-says answer)) (now (out .exit)) r ⌝ }
 {
     match answer {
-        SheetAnswer::Good { terms, skeletons } => good_line(terms, skeletons, out),
+        SheetAnswer::Good { terms, skeletons } => {
+            let at = put_large(out, at, b"sheet good terms ", terms);
+            let at = put_large(out, at, b" skeletons ", skeletons);
+            put_text(out, at, b"\n")
+        }
         SheetAnswer::Refused(r) => {
-            let at = put_small(out, 0, b"sheet refused ", r.number);
+            let at = put_small(out, at, b"sheet refused ", r.number);
             let at = put_large(out, at, b" place ", r.place);
             let at = put_small(out, at, b" skeleton ", r.skeleton);
             put_text(out, at, b"\n")
@@ -95,31 +89,31 @@ pub fn sheet_line(answer: SheetAnswer, out: &mut [u8]) -> usize
 }
 
 // "skeleton 0 open at 0 1", or "skeleton 1 realized"; nothing of a refusal
-pub fn skeleton_line(k: u8, open: RealizedAnswer, out: &mut [u8]) -> usize
-    requires { ⌜ 64 ≤ length (now out) ⌝ }
-    ensures { λ r. ⌜ Wrote (told-line k (realized-says «open»)) (now (out .entry)) (now (out .exit)) r ⌝ }
+pub fn skeleton_line(k: u8, open: RealizedAnswer, out: &mut [u8], at: usize) -> usize
+    requires { ⌜ at + 72 ≤ length (now out) ⌝ }
+    ensures { λ r. ⌜ Line 72 (now (out .entry)) at (told-line k (realized-says «open»)) (now (out .exit)) r ⌝ }
 {
     match open {
         RealizedAnswer::Realized => {
-            let at = put_small(out, 0, b"skeleton ", k);
+            let at = put_small(out, at, b"skeleton ", k);
             put_text(out, at, b" realized\n")
         }
         RealizedAnswer::Open(node) => {
-            let at = put_small(out, 0, b"skeleton ", k);
+            let at = put_small(out, at, b"skeleton ", k);
             let at = put_small(out, at, b" open at ", node.strand.0);
             let at = put_small(out, at, b" ", node.position);
             put_text(out, at, b"\n")
         }
-        RealizedAnswer::Refused(_) => 0,
+        RealizedAnswer::Refused(_) => at,
     }
 }
 
 // "maps 0 to 1: 1", or "maps 0 to 1 refused 16"
-pub fn maps_line(source: u8, target: u8, answer: ListAnswer, out: &mut [u8]) -> usize
-    requires { ⌜ 64 ≤ length (now out) ⌝ }
-    ensures { λ r. ⌜ Wrote (maps-line source target (list-says answer)) (now (out .entry)) (now (out .exit)) r ⌝ }
+pub fn maps_line(source: u8, target: u8, answer: ListAnswer, out: &mut [u8], at: usize) -> usize
+    requires { ⌜ at + 72 ≤ length (now out) ⌝ }
+    ensures { λ r. ⌜ Line 72 (now (out .entry)) at (maps-line source target (list-says answer)) (now (out .exit)) r ⌝ }
 {
-    let at = put_small(out, 0, b"maps ", source);
+    let at = put_small(out, at, b"maps ", source);
     let at = put_small(out, at, b" to ", target);
     match answer {
         ListAnswer::Maps(count) => {
@@ -145,13 +139,14 @@ fn put_next(out: &mut [u8], at: usize, i: usize, n: u8) -> usize
 }
 
 // The strand numbers of a map, parted by one space.
-pub fn map_line(map: &[u8], out: &mut [u8]) -> usize
-    requires { ⌜ (64 ≤ length (now out)) × (length (now map) ≤ 6) ⌝ }
-    ensures { λ r. ⌜ Wrote (map-line (now (map .entry))) (now (out .entry)) (now (out .exit)) r ⌝ }
+pub fn map_line(map: &[u8], out: &mut [u8], at: usize) -> usize
+    requires { ⌜ at + 4 * length (now map) + 1 ≤ length (now out) ⌝ }
+    ensures { λ r. ⌜ Line (4 * length (now (map .entry)) + 1)
+        (now (out .entry)) at (map-line (now (map .entry))) (now (out .exit)) r ⌝ }
 {
-    let mut at = 0;
+    let mut next = at;
     for i in 0..map.len() {
-        at = put_next(out, at, i, map[i]);
+        next = put_next(out, next, i, map[i]);
     }
-    put_text(out, at, b"\n")
+    put_text(out, next, b"\n")
 }

@@ -1,5 +1,6 @@
 -- `lines::maps_line` meets its contract: what it puts into the buffer, one after the other, is the line. Assumes nothing.
 use borrow.Author.Needs.{needs}
+use native.Mathlib.Omega.{arith}
 use Rattle.model.specs.Lines.{ascii, maps-line}
 use Rattle.model.specs.Says.{list-says, refusal-of}
 use Rattle.lines.proofs.Puts.{line-of-three}
@@ -16,7 +17,7 @@ returns c =
     let first = second .before .before .before .before .before in
     rw (met .answer .given .1)
     (line-of-three (first .put-small .ensures) (second .put-small2 .ensures) (third .put-large .ensures)
-    (last .put-text .ensures))
+    (last .put-text .ensures) (omega arith))
 
 returns-2 : tie.Need-returns-2
 unfolding ascii maps-line list-says refusal-of
@@ -28,7 +29,7 @@ returns-2 c =
     let first = second .before .before .before .before .before in
     rw (met .answer2 .given .1)
     (line-of-three (first .put-small .ensures) (second .put-small2 .ensures) (third .put-small3 .ensures)
-    (last .put-text2 .ensures))
+    (last .put-text2 .ensures) (omega arith))
 
 pub maps-line-spec : {M : Type 1} → statement M
 maps-line-spec =
