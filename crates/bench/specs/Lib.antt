@@ -1,0 +1,3 @@
+-- What the bench program writes, and how far it has got.
+pub mod Report
+pub mod Steps
