@@ -167,7 +167,8 @@ reports {c} g (AnswersSaid.two l a b t) =
     let n : c .skeletons ≡ 2 = omega (arith, good .count, good .few) in
     let (o, e) = skeleton-told good (omega arith) a in
     let (p, f) = skeleton-told good (omega arith) b in
-    rw (e, f) (simp append-assoc (simp append-assoc at (Reports.two {o = o} {p = p} g n (rw e at a) (rw f at b) (list-text good n t))))
+    let both = Reports.two {o = o} {p = p} g n (rw e at a) (rw f at b) (list-text good n t) in
+    rw (e, f) (simp append-assoc (simp append-assoc at both))
 
 -- From the steps
 
