@@ -222,21 +222,22 @@ module _ {bytes lent : List ℕ} {skeletons : ℕ} {before : List ℕ} {at : ℕ
       }
 
 module _ {bytes lent : List ℕ} {a : SheetAnswer} {before after : List ℕ} {r : ℕ} where
-  pub reported-bad : (q : Declared.Refusal) → a ≡ SheetAnswer.Refused q → Gives bytes AskSheet (sheet-says a) []
+  pub reported-bad : (q : Declared.Refusal) → length lent ≡ 49152 → a ≡ SheetAnswer.Refused q → Gives bytes AskSheet (sheet-says a) []
       → Line 72 before 0 (sheet-line (sheet-says a)) after r
       → Reported bytes lent before after r
   unfolding sheet-says
-  reported-bad q e g l =
-      record { text = sheet-line (refused (refusal-of q)); reports = Reports.bad (rw e at g); put = rw e at (l .put) }
+  reported-bad q n e g l =
+      record { lends = n; text = sheet-line (refused (refusal-of q)); reports = Reports.bad (rw e at g); put = rw e at (l .put) }
 
-  pub reported-good : {mid : List ℕ} {next : ℕ} (terms skeletons : ℕ) → a ≡ SheetAnswer.Good terms skeletons
+  pub reported-good : {mid : List ℕ} {next : ℕ} (terms skeletons : ℕ) → length lent ≡ 49152 → a ≡ SheetAnswer.Good terms skeletons
       → Gives bytes AskSheet (sheet-says a) []
       → Line 72 before 0 (sheet-line (sheet-says a)) mid next
       → AnswersTold bytes lent skeletons mid next after r
       → Reported bytes lent before after r
   unfolding sheet-says
-  reported-good terms skeletons e g l t =
+  reported-good terms skeletons n e g l t =
       record {
+        lends = n;
         text = sheet-line (answered (record { terms = terms; skeletons = skeletons })) ++ t .text;
         reports = reports (rw e at g) (t .said);
         put = put-after (rw e at (l .put)) (t .put);

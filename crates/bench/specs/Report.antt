@@ -40,8 +40,9 @@ module _ (bytes lent : List ℕ) where
         → ListText maps
         → Reports (sheet-line (answered c) ++ skeleton-line 0 o ++ skeleton-line 1 p ++ maps)
 
-  -- the report stands at the start of a buffer, and r is how many bytes it has
+  -- the report stands at the start of a buffer, and r is how many bytes it has; the program "lends the list 49,152 bytes"
   pub record Reported (before after : List ℕ) (r : ℕ) : Type 0 where
+    pub lends : length lent ≡ 49152
     pub text : List ℕ
     pub reports : Reports text
     pub put : Put before 0 text after r
