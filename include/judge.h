@@ -3,8 +3,8 @@
  *
  * Link target/staticlib/libexports.a, which `rt staticlib exports` makes (x86-64).
  *
- * Slices: each is a pointer and a length in bytes. Where the length is 0 the pointer may be null. Any bytes may be given as a sheet.
- * What a function may write to (`images`, `space`) must not overlap anything else that the same call is given.
+ * Slices: each is a pointer and a length in bytes. Where the length is 0 the pointer may be null. Any bytes may be given as a
+ * sheet. What a function may write to (`images`, `space`) must not overlap anything else that the same call is given.
  *
  * Numbers: terms, skeletons, strands and positions count from 0.
  *
@@ -48,7 +48,8 @@ uint64_t judge_sheet(const uint8_t *sheet, size_t sheet_len);
 uint64_t judge_within(const uint8_t *sheet, size_t sheet_len, uint8_t t, uint8_t inside, const uint8_t *set, size_t set_len);
 
 /* Is the term derivable before the reception at (strand, position)? 1 yes, 2 no. */
-uint64_t judge_derivable(const uint8_t *sheet, size_t sheet_len, uint8_t skeleton, uint8_t strand, uint8_t position, uint8_t term);
+uint64_t judge_derivable(const uint8_t *sheet, size_t sheet_len, uint8_t skeleton, uint8_t strand, uint8_t position,
+                         uint8_t term);
 
 /* How many of the sheet's terms are derivable before the reception at (strand, position)? 1: z of them. */
 uint64_t judge_reach(const uint8_t *sheet, size_t sheet_len, uint8_t skeleton, uint8_t strand, uint8_t position);
@@ -58,8 +59,8 @@ uint64_t judge_realized(const uint8_t *sheet, size_t sheet_len, uint8_t skeleton
 
 /*
  * Is `strands`, one byte for each source strand, a map from the source to the target? 1 yes; 2 no: x is the first broken rule.
- * Yes writes one byte for each of the sheet's terms to `images`: the image of a source variable, 255 elsewhere. Bytes beyond stay.
- * It takes 16 when `images` is shorter than that, before the rules are judged.
+ * Yes writes one byte for each of the sheet's terms to `images`: the image of a source variable, 255 elsewhere. Bytes beyond
+ * stay. It takes 16 when `images` is shorter than that, before the rules are judged.
  * Rules: 1 one byte for each source strand, each a target strand; 2 heights and directions; 3 messages; 4 precedence; 5 NO atoms;
  * 6 UO atoms and their origins.
  */

@@ -222,7 +222,8 @@ module _ {bytes lent : List ℕ} {skeletons : ℕ} {before : List ℕ} {at : ℕ
       }
 
 module _ {bytes lent : List ℕ} {a : SheetAnswer} {before after : List ℕ} {r : ℕ} where
-  pub reported-bad : (q : Declared.Refusal) → length lent ≡ 49152 → a ≡ SheetAnswer.Refused q → Gives bytes AskSheet (sheet-says a) []
+  pub reported-bad : (q : Declared.Refusal) → length lent ≡ 49152 → a ≡ SheetAnswer.Refused q
+      → Gives bytes AskSheet (sheet-says a) []
       → Line 72 before 0 (sheet-line (sheet-says a)) after r
       → Reported bytes lent before after r
   unfolding sheet-says

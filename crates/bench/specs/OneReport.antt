@@ -4,9 +4,9 @@ use mathlib.Core.List.{List, [], _++_}
 use Prim.Native.Nat.{ℕ}
 use native.Mathlib.Omega.{arith}
 use lib.ListN.{length}
-use Rattle.model.specs.Sheet.{Sheet, Refusal, Verdict, Drawing, meant}
+use Rattle.model.specs.Sheet.{Sheet, Refusal, Verdict, Drawing}
 use Rattle.model.specs.Judging.{HasVerdict}
-use Rattle.model.specs.Answers.{Answer, answered, refused, Gives, Counts, AskSheet, Openness, AskRealized, HasSkeletons, ListRoom}
+use Rattle.model.specs.Answers.{answered, refused, Gives, Counts, AskSheet, Openness, AskRealized, HasSkeletons, ListRoom}
 use Rattle.model.specs.Lines.{sheet-line, skeleton-line, maps-line}
 use Rattle.theory.specs.Verdicts.{verdict-one}
 use Rattle.theory.specs.NoSecond.{one-drawing, maps-one}
@@ -29,13 +29,15 @@ module _ {bytes : List ℕ} where
       let e = pinned bytes .sheet .no-second _ _ [] [] g h .answer in
       let z : _≡_ {A = ℕ} 0 1 = cc in omega arith
 
-  same-openness : (k : ℕ) {o p : Openness} → Gives bytes (AskRealized k) (answered o) [] → Gives bytes (AskRealized k) (answered p) []
+  same-openness : (k : ℕ) {o p : Openness} → Gives bytes (AskRealized k) (answered o) []
+      → Gives bytes (AskRealized k) (answered p) []
       → o ≡ p
   same-openness k {o} {p} g h =
       let e = pinned bytes .realized k .no-second _ _ [] [] g h .answer in
       let z : o ≡ p = cc in z
 
-  same-pair : {s t : Sheet} {x y : Drawing × Drawing} → HasVerdict bytes (Verdict.accepted s) → HasVerdict bytes (Verdict.accepted t)
+  same-pair : {s t : Sheet} {x y : Drawing × Drawing} → HasVerdict bytes (Verdict.accepted s)
+      → HasVerdict bytes (Verdict.accepted t)
       → HasSkeletons 0 1 s x
       → HasSkeletons 0 1 t y
       → x ≡ y
