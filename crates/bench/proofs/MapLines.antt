@@ -11,7 +11,7 @@ use Rattle.model.specs.Answers.{end-to-end}
 use Rattle.model.specs.Lines.{map-line}
 use Rattle.lines.specs.Written.{Put, Line}
 use Rattle.lines.proofs.Puts.{put-none, put-after}
-use Rattle.bench.specs.Report.{map-lines}
+use Rattle.model.specs.Report.{map-lines}
 use Rattle.bench.specs.Steps.{lines-upto}
 
 -- the next of so many pieces, m bytes each

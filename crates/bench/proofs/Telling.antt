@@ -26,7 +26,8 @@ use Rattle.judge.specs.Small.{SmallList}
 use Rattle.accept.proofs.Lies.{skeleton-lies}
 use Rattle.lines.specs.Written.{Put, Line, told-line}
 use Rattle.lines.proofs.Puts.{put-after}
-use Rattle.bench.specs.Report.{ListText, listed, no-room, Reports, Reported}
+use Rattle.model.specs.Report.{ListText, listed, no-room, Reports}
+use Rattle.bench.specs.Report.{Reported}
 use Rattle.bench.specs.Steps.{StrandsOf, lines-upto, SkeletonTold, ListSaid, ListTold, AnswersSaid, AnswersTold}
 use Rattle.bench.proofs.MapLines.{maps-room, lines-all}
 

@@ -11,7 +11,8 @@ use Rattle.model.specs.Lines.{sheet-line, skeleton-line, maps-line}
 use Rattle.theory.specs.Verdicts.{verdict-one}
 use Rattle.theory.specs.NoSecond.{one-drawing, maps-one}
 use Rattle.theory.specs.Pinned.{pinned}
-use Rattle.bench.specs.Report.{map-lines, ListText, listed, no-room, Reports, bad, one, two, Reported}
+use Rattle.model.specs.Report.{map-lines, ListText, listed, no-room, Reports, bad, one, two, Output}
+use Rattle.bench.specs.Report.{Reported}
 
 module _ {bytes : List ℕ} where
   same-counts : {c d : Counts} → Gives bytes AskSheet (answered c) [] → Gives bytes AskSheet (answered d) [] → c ≡ d
@@ -84,3 +85,7 @@ pub reported-one : {bytes lent lent′ before before′ after after′ : List �
     (q : Reported bytes lent′ before′ after′ r′)
     → p .text ≡ q .text
 reported-one p q = reports-one (p .lends ∙ back (q .lends)) (p .reports) (q .reports)
+
+-- an input gives one text
+pub output-one : {input text text′ : List ℕ} → Output input text → Output input text′ → text ≡ text′
+output-one p q = reports-one (p .lends ∙ back (q .lends)) (p .reports) (q .reports)

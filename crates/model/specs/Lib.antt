@@ -18,10 +18,11 @@ pub mod Judging
 -- Strand maps:
 pub mod Rising
 pub mod Maps
--- The questions, the answers as the code gives them, and the bench's lines:
+-- The questions, the answers as the code gives them, and what the bench writes:
 pub mod Answers
 pub mod Says
 pub mod Lines
+pub mod Report
 -- Laws that hold the definitions in their place.
 pub mod Laws
 pub mod SkeletonLaws
