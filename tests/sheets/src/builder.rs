@@ -29,6 +29,8 @@ pub mod limit {
     pub const LONGEST: usize = 2581;
     pub const READ: usize = 4096;
     pub const LIST_SPACE: usize = 49_152;
+    /// What all maps of six strands to six take.
+    pub const MOST_MAPS: usize = 6 * 46_656;
 }
 
 pub const SEND: u8 = 0;

@@ -31,6 +31,11 @@ pub fn generate(seed: u64, index: u64) -> Vec<u8> {
     }
 }
 
+/// Sheets that were good before something was done to them.
+pub fn is_damaged(index: u64) -> bool {
+    matches!(index % FAMILIES, 0..=3 | 5..=7)
+}
+
 fn one_fault(rng: &mut Rng, number: usize) -> Vec<u8> {
     let sheet = sound(rng);
     faults::with_faults(rng, &sheet, &[number % faults::REFUSALS + 1])
