@@ -15,6 +15,7 @@ pub mod protocols;
 mod questions;
 mod records;
 mod rng;
+pub mod stored;
 pub mod tally;
 
 pub use generate::{generate, is_damaged};

@@ -1,62 +1,7 @@
 //! Blanchet's simple example (000 section 5.1, 003 section 3.5): A -> B: {{s}a'}b, B -> A: {d}s,
 //! where a' is the inverse of a.
 
-use super::Protocol;
 use crate::builder::{receive, send, Sheet};
-
-pub(super) fn table() -> Vec<Protocol> {
-    let mut table = authentication();
-    table.extend(secrecy());
-    table
-}
-
-fn authentication() -> Vec<Protocol> {
-    vec![
-        Protocol {
-            name: "Blanchet, initiator's view and shape",
-            source: "000 section 5.1 and the text printed in document 01",
-            sheet: blanchet_initiator(),
-            expected: "sheet good terms 9 skeletons 2\n\
-                skeleton 0 open at 0 1\nskeleton 1 realized\nmaps 0 to 1: 1\n0\n",
-        },
-        Protocol {
-            name: "Blanchet, responder's view",
-            source: "000 section 5.1; s is received first, so document 01 refuses it with 12",
-            sheet: blanchet_responder(),
-            expected: "sheet refused 12 place 0 skeleton 0\n",
-        },
-    ]
-}
-
-fn secrecy() -> Vec<Protocol> {
-    vec![
-        Protocol {
-            name: "Blanchet, responder's view with a listener for d",
-            source: "000 section 5.1; s is received first here too",
-            sheet: blanchet_listener(),
-            expected: "sheet refused 12 place 0 skeleton 0\n",
-        },
-        Protocol {
-            name: "Blanchet, responder's shape and the leak",
-            source: "000 section 5.1: the shape with b', and the shape that reveals d",
-            sheet: blanchet_leak(),
-            expected: "sheet good terms 12 skeletons 2\n\
-                skeleton 0 realized\nskeleton 1 realized\nmaps 0 to 1: 1\n0 2\n",
-        },
-        Protocol {
-            name: "Blanchet, no leak if the initiator meant b",
-            source: "case P7 of document 01",
-            sheet: blanchet_sealed(),
-            expected: "sheet good terms 9 skeletons 1\nskeleton 0 open at 1 0\n",
-        },
-        Protocol {
-            name: "Blanchet, no leak in the initiator's view",
-            source: "003 section 3.5: d remains private in the initiator's point of view",
-            sheet: blanchet_private(),
-            expected: "sheet good terms 9 skeletons 1\nskeleton 0 open at 1 0\n",
-        },
-    ]
-}
 
 /// The nine terms that every sheet here begins with, in the order of document 01.
 struct Terms {

@@ -4,40 +4,7 @@
 //! Public keys: a -> b: {{k, t}a'}Kb, where a' is a's private key. Symmetric:
 //! a -> s: a, b; s -> a: {b, k, t, {a, k, t}Kbs}Kas; a -> b: {a, k, t}Kbs.
 
-use super::Protocol;
 use crate::builder::{receive, send, Sheet};
-
-pub(super) fn table() -> Vec<Protocol> {
-    vec![
-        Protocol {
-            name: "Denning-Sacco with public keys, c's view and b's abuse of a's message",
-            source: "002 table 18.1 (man in the middle), first told by Abadi and Needham (1996)",
-            sheet: denning_sacco_public(),
-            expected: "sheet good terms 17 skeletons 2\n\
-                skeleton 0 open at 0 0\nskeleton 1 realized\nmaps 0 to 1: 1\n0\n",
-        },
-        Protocol {
-            name: "Denning-Sacco with public keys and names signed, the abuse tried",
-            source: "Abadi and Needham (1996): naming both parties mends it",
-            sheet: denning_sacco_named(),
-            expected: "sheet good terms 20 skeletons 1\nskeleton 0 open at 0 0\n",
-        },
-        Protocol {
-            name: "Denning-Sacco with symmetric keys, responder's view and the intended run",
-            source: "published form; {a, k, t}Kbs can only come from the server (000 chapter 9)",
-            sheet: denning_sacco_symmetric(),
-            expected: "sheet good terms 15 skeletons 2\n\
-                skeleton 0 open at 0 0\nskeleton 1 realized\nmaps 0 to 1: 1\n0\n",
-        },
-        Protocol {
-            name: "Denning-Sacco with symmetric keys, a as responder and the type flaw",
-            source: "002 table 18.1 (type flaw): the server's message 2 is taken for message 3",
-            sheet: denning_sacco_type_flaw(),
-            expected: "sheet good terms 19 skeletons 2\n\
-                skeleton 0 open at 0 0\nskeleton 1 realized\nmaps 0 to 1: 1\n0\n",
-        },
-    ]
-}
 
 /// Seventeen terms: a, b, c, k, t, d 6; three public and three private keys 12; (k, t),
 /// {k, t}a', that under Kb and Kc 16; {d}k 17.

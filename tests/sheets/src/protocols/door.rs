@@ -1,27 +1,7 @@
 //! The door protocol of 003 section 7.5.2: person -> door: {{k}p'}d, door -> person: {t}k,
 //! person -> door: t, where p' is the inverse of p.
 
-use super::Protocol;
 use crate::builder::{receive, send, Event, Sheet};
-
-pub(super) fn table() -> Vec<Protocol> {
-    vec![
-        Protocol {
-            name: "door, the door's view and the weakness",
-            source: "003 figures 7.9 and 7.8: the person may have meant another door",
-            sheet: door_weakness(),
-            expected: "sheet good terms 12 skeletons 2\n\
-                skeleton 0 open at 0 0\nskeleton 1 realized\nmaps 0 to 1: 1\n0\n",
-        },
-        Protocol {
-            name: "door, the weakness and the intended run under the trust axiom",
-            source: "003 section 7.5.2: with every door's key safe the protocol does its job",
-            sheet: door_trust(),
-            expected: "sheet good terms 12 skeletons 2\n\
-                skeleton 0 open at 0 0\nskeleton 1 realized\nmaps 0 to 1: 1\n0 1\n",
-        },
-    ]
-}
 
 /// Twelve terms: p, d, c and their inverses, k, t, {k}p', that under d and under c, {t}k.
 struct Terms {

@@ -2,48 +2,7 @@
 //! a -> s: a, b, n; s -> a: {k, n}Kas, {k, a, b}Kbs; a -> b: {m}k, {k, a, b}Kbs.
 //! Mended, the first part of the answer is {k, n, b}Kas.
 
-use super::Protocol;
 use crate::builder::{receive, send, Event, Sheet};
-
-pub(super) fn table() -> Vec<Protocol> {
-    vec![
-        Protocol {
-            name: "flawed Kerberos, the view as printed",
-            source: "003 figures 4.1 and 4.2 and section 5.2.1: item 0 is not yet a skeleton, \
-                the listener is not ordered behind m's origin; document 01 refuses it with 13",
-            sheet: kerberos_view(),
-            expected: "sheet refused 13 place 3 skeleton 0\n",
-        },
-        Protocol {
-            name: "flawed Kerberos with the ticket checked, the view and the dead skeleton",
-            source: "003 figure 4.3 and section 5.2: the key server works for a and b, and k \
-                cannot be exposed",
-            sheet: kerberos_checked(),
-            expected: "sheet good terms 18 skeletons 2\n\
-                skeleton 0 open at 0 1\nskeleton 1 open at 3 0\nmaps 0 to 1: 1\n0 1\n",
-        },
-        Protocol {
-            name: "flawed Kerberos with the ticket unchecked, the view and the attack",
-            source: "003 figures 4.4 and 4.5 and section 5.2: item 7 is realized",
-            sheet: kerberos_attack(),
-            expected: "sheet good terms 24 skeletons 2\n\
-                skeleton 0 open at 0 1\nskeleton 1 realized\nmaps 0 to 1: 1\n0 1\n",
-        },
-        Protocol {
-            name: "mended Kerberos, the run and a listener for m",
-            source: "003 section 4.1 (the message under Kas should include b), exploration 4.1",
-            sheet: kerberos_mended(),
-            expected: "sheet good terms 21 skeletons 2\n\
-                skeleton 0 realized\nskeleton 1 open at 1 0\nmaps 0 to 1: 1\n0 2\n",
-        },
-        Protocol {
-            name: "mended Kerberos, the attack tried",
-            source: "003 section 4.1: the initiator is assured that k is for b",
-            sheet: kerberos_attack_on_mended(),
-            expected: "sheet good terms 28 skeletons 1\nskeleton 0 open at 0 1\n",
-        },
-    ]
-}
 
 /// a, b, s, m, n, k and the long-term keys Kas and Kbs are terms 0 to 7.
 struct Terms {

@@ -5,27 +5,7 @@
 //! s -> b: m, {na, k}Kas, {nb, k}Kbs
 //! b -> a: m, {na, k}Kas
 
-use super::Protocol;
 use crate::builder::{receive, send, Sheet};
-
-pub(super) fn table() -> Vec<Protocol> {
-    vec![
-        Protocol {
-            name: "Otway-Rees, initiator's view and the intended run",
-            source: "published form; {na, k}Kas can only come from the server (000 chapter 9)",
-            sheet: otway_rees(),
-            expected: "sheet good terms 29 skeletons 2\n\
-                skeleton 0 open at 0 1\nskeleton 1 realized\nmaps 0 to 1: 1\n0\n",
-        },
-        Protocol {
-            name: "Otway-Rees, initiator's view with any key and the type flaw",
-            source: "002 table 18.1 (type flaw): m, a, b is taken for the key",
-            sheet: otway_rees_type_flaw(),
-            expected: "sheet good terms 18 skeletons 2\n\
-                skeleton 0 open at 0 1\nskeleton 1 realized\nmaps 0 to 1: 1\n0\n",
-        },
-    ]
-}
 
 /// Twenty-nine terms: a, b, s, m, na, nb, k, Kas, Kbs 9; (a, b), (m, .) 11; (na, .), {.}Kas 13;
 /// message 1 in three pairs 16; (nb, .), {.}Kbs 18; message 2 in four pairs 22; (na, k), {.}Kas,

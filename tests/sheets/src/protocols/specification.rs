@@ -1,34 +1,6 @@
 //! The other two examples of chapter 5 of document 000.
 
-use super::Protocol;
 use crate::builder::{receive, send, Sheet};
-
-pub(super) fn table() -> Vec<Protocol> {
-    vec![
-        Protocol {
-            name: "Dolev-Yao example 1.3, the scenario as printed",
-            source: "000 section 5.2: no orders, so m is received before it is known to have \
-                been sent; document 01 refuses the preskeleton with 13",
-            sheet: dolev_yao_scenario(),
-            expected: "sheet refused 13 place 0 skeleton 0\n",
-        },
-        Protocol {
-            name: "Dolev-Yao example 1.3, the scenario ordered, and its shape",
-            source: "000 section 5.2: m is not kept secret, the shape with two responders",
-            sheet: dolev_yao_shape(),
-            expected: "sheet good terms 22 skeletons 2\n\
-                skeleton 0 open at 1 0\nskeleton 1 realized\nmaps 0 to 1: 1\n0 1\n",
-        },
-        Protocol {
-            name: "the exercise, and the same with one responder",
-            source: "000 section 5.3: figure 5.4 shows a bundle that realizes it; both \
-                responders may be the same one",
-            sheet: exercise(),
-            expected: "sheet good terms 6 skeletons 2\n\
-                skeleton 0 realized\nskeleton 1 realized\nmaps 0 to 1: 1\n0 1 1\n",
-        },
-    ]
-}
 
 /// m, which is term 0, and the initiator's message {{m}b, a}b.
 struct Start {

@@ -3,27 +3,7 @@
 //! a -> b: a; b -> a: nb; a -> b: {nb}Kas; b -> s: {a, {nb}Kas}Kbs;
 //! s -> b: {nb}Kbs in the plain version, {a, nb}Kbs in version 3.
 
-use super::Protocol;
 use crate::builder::{receive, send, Sheet};
-
-pub(super) fn table() -> Vec<Protocol> {
-    vec![
-        Protocol {
-            name: "Woo-Lam version 3, responder's view and the type flaw",
-            source: "002 table 18.1 (type flaw): nb itself is sent back in place of {nb}Kas",
-            sheet: woo_lam_type_flaw(),
-            expected: "sheet good terms 11 skeletons 2\n\
-                skeleton 0 open at 0 4\nskeleton 1 realized\nmaps 0 to 1: 1\n0\n",
-        },
-        Protocol {
-            name: "Woo-Lam, responder's view and the parallel session",
-            source: "002 table 18.1 (parallel session): a second run with i yields {nb}Kbs",
-            sheet: woo_lam_parallel(),
-            expected: "sheet good terms 16 skeletons 2\n\
-                skeleton 0 open at 0 4\nskeleton 1 realized\nmaps 0 to 1: 1\n0\n",
-        },
-    ]
-}
 
 /// Eleven terms: a, b, s, nb, x, Kas, Kbs 7; (a, x), {a, x}Kbs 9; (a, nb), {a, nb}Kbs 11.
 pub fn woo_lam_type_flaw() -> Vec<u8> {

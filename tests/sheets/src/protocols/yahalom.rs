@@ -1,36 +1,7 @@
 //! Yahalom: as in 003 section 8.1, its channels made of long-term keys as that section says they
 //! may be, and in the original form of 002 figure 2.1.
 
-use super::Protocol;
 use crate::builder::{receive, send, Sheet};
-
-pub(super) fn table() -> Vec<Protocol> {
-    vec![
-        Protocol {
-            name: "Yahalom with channels, responder's first guarantee and shape",
-            source: "003 figures 8.3 and 8.2: once the server's channels are confidential, an \
-                initiator must be there too",
-            sheet: yahalom_channels(),
-            expected: "sheet good terms 33 skeletons 2\n\
-                skeleton 0 open at 0 3\nskeleton 1 realized\nmaps 0 to 1: 1\n0 1\n",
-        },
-        Protocol {
-            name: "Yahalom, responder's view and the intended run",
-            source: "002 figure 2.1 and section 2.2: the run can be carried out to its end",
-            sheet: yahalom(),
-            expected: "sheet good terms 21 skeletons 2\n\
-                skeleton 0 open at 0 2\nskeleton 1 realized\nmaps 0 to 1: 1\n0\n",
-        },
-        Protocol {
-            name: "Yahalom, the type flaw, before and after the server's answer is heard",
-            source: "002 figure 2.2: the key is taken to be (na, nb), and nb is known from \
-                message 3",
-            sheet: yahalom_type_flaw(),
-            expected: "sheet good terms 21 skeletons 2\n\
-                skeleton 0 open at 0 2\nskeleton 1 realized\nmaps 0 to 1: 1\n0 1\n",
-        },
-    ]
-}
 
 /// Thirty-three terms: a, b, s 3; na, na', nb, nb' 7; k 8; Kas, Kbs 10; (a, na) 11; (a, b, na, nb)
 /// 14; (b, k), (a, .), {a, b, k}Kbs 17; {nb}k 18; (a, b, na', nb') 21; (k, .), (b, .), (a, .) and
