@@ -11,10 +11,11 @@ use Rattle.model.specs.declared.YesNo.{YesNo}
 use Rattle.model.specs.declared.ReachAnswer.{ReachAnswer}
 use Rattle.model.specs.declared.RealizedAnswer.{RealizedAnswer}
 use Rattle.model.specs.declared.MapAnswer.{MapAnswer}
+use Rattle.model.specs.declared.ListAnswer.{ListAnswer}
 use Rattle.model.specs.Sheet.{Verdict}
 use Rattle.model.specs.Answers.{Answer, Gives, Openness, Mapping, AskSheet}
-use Rattle.model.specs.Says.{node-of, refusal-of, sheet-says, yes-no-says, reach-says, realized-says, map-says}
-use Rattle.judge.specs.Small.{SmallRefusal, SmallSheet, SmallYesNo, SmallReach, SmallRealized, SmallMap}
+use Rattle.model.specs.Says.{node-of, refusal-of, sheet-says, yes-no-says, reach-says, realized-says, map-says, list-says}
+use Rattle.judge.specs.Small.{SmallRefusal, SmallSheet, SmallYesNo, SmallReach, SmallRealized, SmallMap, SmallList}
 use Rattle.exports.specs.Words.{word, refusal-word, sheet-word, yes-no-word, count-word, realized-word, map-word}
 use Rattle.exports.specs.Said.{SaidAs}
 
@@ -104,3 +105,20 @@ module _ {bytes after : List ℕ} (Question : Verdict → Answer Mapping → Lis
   pub map-refused-word : (r : Refusal) {w : ℕ} → a ≡ MapAnswer.Refused r → w ≡ refusal-word (refusal-of r) → SaidAs bytes Question map-word after w
   unfolding map-says map-word
   map-refused-word r e q = record { answer = _; gives = rw e at (g .0); is = q }
+
+-- the list
+module _ {bytes after : List ℕ} (Question : Verdict → Answer ℕ → List ℕ → Type 0) (a : ListAnswer) (g : Gives bytes Question (list-says a) after × SmallList a) where
+  pub list-low : (count : ℕ) → a ≡ ListAnswer.Maps count → count ≤ 46656
+  list-low count e = rw e at (g .1)
+
+  pub list-refused-low : (r : Refusal) → a ≡ ListAnswer.Refused r → SmallRefusal r
+  list-refused-low r e = rw e at (g .1)
+
+  pub list-word : (count : ℕ) {w : ℕ} → a ≡ ListAnswer.Maps count → w ≡ word 1 0 0 count → SaidAs bytes Question count-word after w
+  unfolding list-says count-word
+  list-word count e q = record { answer = _; gives = rw e at (g .0); is = q }
+
+  pub list-refused-word : (r : Refusal) {w : ℕ} → a ≡ ListAnswer.Refused r → w ≡ refusal-word (refusal-of r)
+      → SaidAs bytes Question count-word after w
+  unfolding list-says count-word
+  list-refused-word r e q = record { answer = _; gives = rw e at (g .0); is = q }

@@ -2,17 +2,19 @@
 ghost use mathlib.Core.Path.{_≡_};
 ghost use mathlib.Core.List.{[]};
 ghost use Prim.Native.Nat.{_≤_, _<_};
-ghost use Rattle.model.specs.Answers.{AskSheet, AskWithin, AskDerivable, AskReach, AskRealized, AskMap};
+ghost use Rattle.model.specs.Answers.{AskSheet, AskWithin, AskDerivable, AskReach, AskRealized, AskMap, AskList};
 ghost use Rattle.model.specs.Says.{refusal-of, yes-no-says};
 ghost use Rattle.judge.specs.Small.{SmallRefusal, SmallYesNo};
 ghost use Rattle.exports.specs.Words.{word, refusal-word, sheet-word, yes-no-word, count-word, realized-word, map-word};
 ghost use Rattle.exports.specs.Said.{SaidAs, node-at};
 use judge::derivable;
+use judge::list;
 use judge::map;
 use judge::reach;
 use judge::realized;
 use judge::sheet;
 use judge::within;
+use model::ListAnswer;
 use model::MapAnswer;
 use model::ReachAnswer;
 use model::RealizedAnswer;
@@ -133,5 +135,17 @@ pub extern "C" fn judge_map(
         MapAnswer::Yes => word_of(1, 0, 0, 0),
         MapAnswer::Broken(rule) => word_of(2, rule, 0, 0),
         MapAnswer::Refused(r) => refusal_word_of(r),
+    }
+}
+
+// 1, z the count.
+#[no_mangle]
+pub extern "C" fn judge_list(bytes: &[u8], source: u8, target: u8, space: &mut [u8]) -> u64
+    ensures { λ r. ⌜ SaidAs (now (bytes .entry)) (AskList source target (now (space .entry))) count-word (now (space .exit)) r ⌝ }
+{
+    let answer = list(bytes, source, target, space);
+    match answer {
+        ListAnswer::Maps(count) => word_of(1, 0, 0, count),
+        ListAnswer::Refused(r) => refusal_word_of(r),
     }
 }

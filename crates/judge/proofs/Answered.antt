@@ -9,18 +9,20 @@ use Rattle.model.specs.declared.YesNo.{YesNo}
 use Rattle.model.specs.declared.ReachAnswer.{ReachAnswer}
 use Rattle.model.specs.declared.RealizedAnswer.{RealizedAnswer}
 use Rattle.model.specs.declared.MapAnswer.{MapAnswer}
+use Rattle.model.specs.declared.ListAnswer.{ListAnswer}
 use Rattle.model.specs.Skeleton.{Node}
 use Rattle.model.specs.Sheet.{Sheet, Verdict, Drawing}
 use Rattle.model.specs.Judging.{HasVerdict}
 use Rattle.model.specs.Rising.{Rising, more}
-use Rattle.model.specs.Answers.{Answer, answered, refused, Asked, bad-sheet, no-such, too-short, said, Gives, AskSheet, AskWithin, AskDerivable, AskReach, AskRealized, AskMap}
-use Rattle.model.specs.Says.{refusal-of, yes-no-says, reach-says, realized-says, map-says}
+use Rattle.model.specs.Answers.{Answer, answered, refused, Asked, bad-sheet, no-such, too-short, said, Gives, AskSheet, AskWithin, AskDerivable, AskReach, AskRealized, AskMap, AskList}
+use Rattle.model.specs.Says.{refusal-of, yes-no-says, reach-says, realized-says, map-says, list-says}
 use Rattle.theory.specs.Upto.{length-upto}
 use Rattle.theory.specs.Lengths.{verdict-places}
 use Rattle.tables.specs.Tables.{byte, row-at, rows-of, skeleton-in, sheet-in, Filled}
 use Rattle.accept.specs.declared.Accepted.{Accepted}
 use Rattle.accept.specs.Held.{AcceptedAs, Held}
-use Rattle.judge.specs.Small.{SmallYesNo, SmallReach, SmallRealized, SmallMap}
+use Rattle.listing.specs.Found.{FewMaps}
+use Rattle.judge.specs.Small.{SmallYesNo, SmallReach, SmallRealized, SmallMap, SmallList}
 
 pub was-refused : {bytes t inverses : List ℕ} {a : Accepted} (r : Refusal) → AcceptedAs bytes t inverses a → a ≡ Accepted.Refused r
     → HasVerdict bytes (Verdict.refused (refusal-of r))
@@ -167,3 +169,16 @@ unfolding AskMap map-says
 map-small k j m lent after s MapAnswer.Yes q = tt
 map-small k j m lent after s (MapAnswer.Broken rule) q = tt
 map-small k j m lent after s (MapAnswer.Refused r) q = asked-small r q refl
+
+-- list
+pub list-refused : {bytes t inverses : List ℕ} {a : Accepted} (k j : ℕ) (lent : List ℕ) (r : Refusal) → AcceptedAs bytes t inverses a
+    → a ≡ Accepted.Refused r
+    → Gives bytes (AskList k j lent) (refused (refusal-of r)) lent
+unfolding AskList
+list-refused k j lent r h e = refuses _ _ _ lent r h e
+
+pub list-small : (k j : ℕ) (lent after : List ℕ) (s : Sheet) (r : ListAnswer) → AskList k j lent (Verdict.accepted s) (list-says r) after → FewMaps r
+    → SmallList r
+unfolding AskList list-says
+list-small k j lent after s (ListAnswer.Maps count) q few = few
+list-small k j lent after s (ListAnswer.Refused r) q few = asked-small r q refl

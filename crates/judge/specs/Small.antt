@@ -6,6 +6,7 @@ use Rattle.model.specs.declared.YesNo.{YesNo}
 use Rattle.model.specs.declared.ReachAnswer.{ReachAnswer}
 use Rattle.model.specs.declared.RealizedAnswer.{RealizedAnswer}
 use Rattle.model.specs.declared.MapAnswer.{MapAnswer}
+use Rattle.model.specs.declared.ListAnswer.{ListAnswer}
 
 -- a refusal's place lies in the longest sheet, or at its end
 abbrev pub SmallRefusal : Refusal → Type 0
@@ -33,3 +34,7 @@ abbrev pub SmallMap : MapAnswer → Type 0
 SmallMap MapAnswer.Yes = Unit {0}
 SmallMap (MapAnswer.Broken rule) = Unit {0}
 SmallMap (MapAnswer.Refused r) = SmallRefusal r
+
+abbrev pub SmallList : ListAnswer → Type 0
+SmallList (ListAnswer.Maps count) = count ≤ 46656
+SmallList (ListAnswer.Refused r) = SmallRefusal r

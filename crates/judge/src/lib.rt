@@ -2,11 +2,12 @@
 ghost use mathlib.Core.Path.{_≡_};
 ghost use mathlib.Core.List.{[]};
 ghost use Prim.Native.Nat.{_≤_};
-ghost use Rattle.model.specs.Answers.{Gives, AskSheet, AskWithin, AskDerivable, AskReach, AskRealized, AskMap};
-ghost use Rattle.model.specs.Says.{node-of, sheet-says, yes-no-says, reach-says, realized-says, map-says};
-ghost use Rattle.judge.specs.Small.{SmallSheet, SmallYesNo, SmallReach, SmallRealized, SmallMap};
+ghost use Rattle.model.specs.Answers.{Gives, AskSheet, AskWithin, AskDerivable, AskReach, AskRealized, AskMap, AskList};
+ghost use Rattle.model.specs.Says.{node-of, sheet-says, yes-no-says, reach-says, realized-says, map-says, list-says};
+ghost use Rattle.judge.specs.Small.{SmallSheet, SmallYesNo, SmallReach, SmallRealized, SmallMap, SmallList};
 use accept::Accepted;
 use accept::accept;
+use model::ListAnswer;
 use model::MapAnswer;
 use model::ReachAnswer;
 use model::RealizedAnswer;
@@ -122,5 +123,19 @@ pub fn map(bytes: &[u8], source: u8, target: u8, map: &[u8], images: &mut [u8]) 
         Accepted::Good => {
             mapping::map(&table, &inverses, &mut before, source, target, map, images)
         }
+    }
+}
+
+// Which strand maps are maps from one skeleton to another? They are written end to end.
+pub fn list(bytes: &[u8], source: u8, target: u8, space: &mut [u8]) -> ListAnswer
+    ensures { λ r. ⌜ Gives (now (bytes .entry)) (AskList source target (now (space .entry))) (list-says r) (now (space .exit)) × SmallList r ⌝ }
+{
+    let mut table = [0u8; TABLE];
+    let mut inverses = [0u8; INVERSES];
+    let mut before = [0u64; BEFORE];
+    let accepted = accept(bytes, &mut table, &mut inverses, &mut before);
+    match accepted {
+        Accepted::Refused(refusal) => ListAnswer::Refused(refusal),
+        Accepted::Good => { listing::list(&table, &inverses, &mut before, source, target, space) }
     }
 }

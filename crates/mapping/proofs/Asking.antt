@@ -25,7 +25,7 @@ pub both-true : (a b : Bool) → (a && b) ≡ true → (a ≡ true) × (b ≡ tr
 both-true true b e = (refl, e)
 both-true false b e = absurd (true≢false (sym e))
 
-not-both : (a b : Bool) → (a && b) ≡ false → a ≡ true → b ≡ true → ⊥
+pub not-both : (a b : Bool) → (a && b) ≡ false → a ≡ true → b ≡ true → ⊥
 not-both a b e p q = true≢false (sym (rw (p, q) refl) ∙ e)
 
 pub good-rows : (t : List ℕ) {inverses : List ℕ} → Stored t inverses → Good (rows-in t)

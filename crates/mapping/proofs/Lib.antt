@@ -3,4 +3,4 @@ pub mod Reading
 mod Judging
 mod Starting
 mod Writing
-mod Asking
+pub mod Asking

@@ -226,7 +226,7 @@ fn write_images(table: &[u8], images: &[u8], lent: &mut [u8])
 }
 
 // Whether the sheet has this skeleton.
-fn has_skeleton(table: &[u8], k: u8) -> bool
+pub fn has_skeleton(table: &[u8], k: u8) -> bool
     requires { ⌜ Filled (now table) ⌝ }
     ensures { λ r. ⌜ (r ≡ true) ↔ (k < byte (now (table .entry)) skeleton-count) ⌝ }
 {
@@ -234,7 +234,7 @@ fn has_skeleton(table: &[u8], k: u8) -> bool
 }
 
 // Where the skeleton's block begins.
-fn block_of(k: u8) -> usize
+pub fn block_of(k: u8) -> usize
     ensures { λ r. ⌜ r ≡ block k ⌝ }
 {
     BLOCKS + BLOCK * wide(k)

@@ -1,0 +1,4 @@
+-- Laws that belong to no one function.
+mod Marking
+mod Giving
+mod Listing
