@@ -54,7 +54,7 @@ fn sound(rng: &mut Rng) -> Vec<u8> {
     match rng.below(6) {
         0 => maps::sorts(rng).bytes(),
         1 => crate::example(),
-        2 => rng.pick(protocols::sheets()).clone(),
+        2 => rng.pick(protocols::all()).sheet.clone(),
         _ => good::random(rng).bytes(),
     }
 }
@@ -73,8 +73,8 @@ fn deep(rng: &mut Rng, number: usize) -> Vec<u8> {
 
 /// A real protocol, as it is or with an order or an assumption lost or changed.
 fn protocol(rng: &mut Rng, number: usize) -> Vec<u8> {
-    let all = protocols::sheets();
-    let mut sheet = Sheet::read(&all[number % all.len()]);
+    let all = protocols::all();
+    let mut sheet = Sheet::read(&all[number % all.len()].sheet);
     for _ in 0..rng.below(3) {
         let side = rng.below(sheet.skeletons.len());
         let parts = sheet.terms.len();

@@ -80,7 +80,8 @@ fn before_comment(line: &str) -> &str {
     line.split('#').next().unwrap_or("").trim_end()
 }
 
-fn bytes(text: &str) -> Option<Vec<u8>> {
+/// The bytes that are written in hexadecimal digits.
+pub(crate) fn bytes(text: &str) -> Option<Vec<u8>> {
     let mut bytes = Vec::new();
     for word in text
         .lines()

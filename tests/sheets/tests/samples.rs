@@ -31,26 +31,11 @@ fn the_second_program_gives_the_stored_answers() {
     assert!(wrong.is_empty(), "{}", wrong.join("\n"));
 }
 
-/// Each real protocol is stored under its name.
+/// The digits that document 01 prints are those of the stored sheet and of the raw file.
 #[test]
-fn every_protocol_is_stored() {
-    let stored = stored();
-    for protocol in protocols::all() {
-        let same =
-            |sample: &&Sample| sample.name == protocol.name && sample.sheet == protocol.sheet;
-        assert!(
-            stored.iter().any(|sample| same(&sample)),
-            "{}",
-            protocol.name
-        );
-    }
-}
-
-/// The sheet of document 01 is the initiator's view, byte for byte, and so is the raw file.
-#[test]
-fn the_example_is_the_initiators_view() {
+fn the_printed_sheet_is_stored() {
     let raw = std::fs::read(Path::new(FOLDER).join("handshake.bs")).expect("it is there");
     assert_eq!(raw, sheets::example());
-    assert_eq!(protocols::blanchet_initiator(), sheets::example());
-    assert_eq!(sheets::example().len(), 105);
+    assert_eq!(protocols::named("handshake"), sheets::example());
+    assert_eq!(raw.len(), 105);
 }
