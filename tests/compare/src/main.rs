@@ -60,7 +60,9 @@ fn of_a_seed(seed: u64, count: u64, first: u64) -> Result<(), String> {
         ..Plan::new(Program::bench())
     };
     let tally = compare_all(&plan)?;
-    println!("{count} sheets of seed {seed} and {} real protocols: no difference in {} questions and each bench text", real.len(), tally.asked);
+    let (real, asked) = (real.len(), tally.asked);
+    println!("{count} sheets of seed {seed} and {real} real protocols:");
+    println!("no difference in {asked} questions and each bench text");
     tally.print();
     match count >= ENOUGH {
         true => expect_all(&tally),

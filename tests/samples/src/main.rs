@@ -1,5 +1,5 @@
-//! Puts the sheets of `data/` to the proved library and to the bench program, and compares their answers with those stored beside the
-//! sheets: `samples [folder]`.
+//! Puts the sheets of `data/` to the proved library and to the bench program, and compares their answers with those stored
+//! beside the sheets: `samples [folder]`.
 
 #[path = "../../compare/src/program.rs"]
 mod program;

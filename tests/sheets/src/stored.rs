@@ -152,8 +152,8 @@ impl Sample {
         questions
     }
 
-    /// The questions that the bench's text answers. A sheet that is refused is refused to every question, whatever else is wrong with
-    /// it.
+    /// The questions that the bench's text answers. A sheet that is refused is refused to every question, whatever else is
+    /// wrong with it.
     fn told_by_text(&self) -> Vec<(Question, String)> {
         let mut told = Vec::new();
         let lines: Vec<&str> = self.text.lines().collect();
@@ -214,8 +214,8 @@ impl Sample {
     }
 }
 
-/// The list question that `maps 0 to 1` and the lines after it answer. It is lent no more than the maps take, and where they are refused
-/// what the bench lends.
+/// The list question that `maps 0 to 1` and the lines after it answer. It is lent no more than the maps take, and where they are
+/// refused what the bench lends.
 fn listed(line: &str, maps: &[&str]) -> (Question, String) {
     let ask = |lent| Question::List {
         source: 0,
