@@ -78,7 +78,8 @@ fn expect_all(tally: &Tally) -> Result<(), String> {
     }
 }
 
-/// The program is started for one sheet in ten only, so that more sheets are tried.
+/// The program is started for one sheet in eleven only, so that more sheets are tried; the families of sheets take turns by
+/// twenties, so that it gets sheets of each.
 fn for_minutes(minutes: u64) -> Result<(), String> {
     let clock = SystemTime::now().duration_since(UNIX_EPOCH);
     let seed = clock.map_err(|error| error.to_string())?.as_secs();
@@ -89,7 +90,7 @@ fn for_minutes(minutes: u64) -> Result<(), String> {
             let (seed, index) = of(number);
             (Instant::now() < end).then(|| generated(seed, index))
         },
-        bench_every: 10,
+        bench_every: 11,
         ..Plan::new(Program::bench())
     };
     let tally = compare_all(&plan)?;
