@@ -1,137 +1,134 @@
 //! Puts generated sheets and real protocols, each with its questions, to the proved judge and to the second program:
-//! `compare [seed] [count]`. Fails at the first difference, or if an answer that can be compared never occurs.
+//!
+//! - `compare [seed] [count] [first]`: sheets of one seed, from number `first` on, and the real protocols;
+//! - `compare --minutes N`: fresh sheets of seeds taken from the clock, until the time is over;
+//! - `compare --valgrind [count]`: the bench program under valgrind over damaged sheets, the other questions left out.
+//!
+//! Fails at the first difference; a run of 50,000 sheets or more also if an answer that can be given never is.
 
+mod asking;
+mod program;
 mod proved;
 
 use std::process::ExitCode;
+use std::time::{Duration, Instant, SystemTime, UNIX_EPOCH};
 
-use sheets::judge::lent;
-use sheets::protocols;
-use sheets::{generate, questions, Question};
+use asking::{compare_all, Case, Plan};
+use program::Program;
+use sheets::tally::Tally;
+use sheets::{generate, is_damaged, protocols};
 
-/// How often each question was answered with each tag, and refused with each number.
-#[derive(Default)]
-struct Counts {
-    answered: [[u64; 3]; 6],
-    refused: [u64; 17],
-}
+/// From this many sheets on every answer is expected.
+const ENOUGH: u64 = 50_000;
+/// The walks over fixed sheets are over here, and each sheet is a new one.
+const FRESH: u64 = 50_000;
+/// How many sheets of one seed are taken in a run by the clock.
+const OF_A_SEED: u64 = 20_000;
 
 fn main() -> ExitCode {
-    let mut arguments = std::env::args().skip(1).map(|word| word.parse::<u64>());
-    let mut number = |or: u64| arguments.next().and_then(Result::ok).unwrap_or(or);
-    let (seed, count) = (number(1), number(50_000));
-    let mut counts = Counts::default();
-    let mut same = true;
-    for index in 0..count {
-        let sheet = generate(seed, index);
-        same &= compare(&format!("sheet {index}"), seed, index, &sheet, &mut counts);
-    }
-    for (index, protocol) in protocols::all().iter().enumerate() {
-        same &= compare(
-            protocol.name,
-            seed,
-            index as u64,
-            &protocol.sheet,
-            &mut counts,
-        );
-    }
-    if same && counts.report(count) {
-        ExitCode::SUCCESS
-    } else {
-        ExitCode::FAILURE
+    let words: Vec<String> = std::env::args().skip(1).collect();
+    let number = |at: usize, or: u64| match words.get(at) {
+        Some(word) => word.parse().map_err(|_| format!("{word} is no number")),
+        None => Ok(or),
+    };
+    let outcome = match words.first().map(String::as_str) {
+        Some("--minutes") => number(1, 10).and_then(for_minutes),
+        Some("--valgrind") => number(1, 1_000).and_then(under_valgrind),
+        _ => number(0, 1).and_then(|seed| of_a_seed(seed, number(1, ENOUGH)?, number(2, 0)?)),
+    };
+    match outcome {
+        Ok(()) => ExitCode::SUCCESS,
+        Err(difference) => {
+            println!("{difference}");
+            ExitCode::FAILURE
+        }
     }
 }
 
-/// Asks both judges all the questions of a sheet.
-fn compare(name: &str, seed: u64, index: u64, sheet: &[u8], counts: &mut Counts) -> bool {
-    for question in questions(seed, index, sheet) {
-        let Some((kind, ours, theirs)) = ask(sheet, &question) else {
-            continue;
-        };
-        if ours != theirs {
-            println!(
-                "{name}, {question:?}: the judge says {ours:#x}, the second program {theirs:#x}"
-            );
-            return false;
-        }
-        match ours as u8 {
-            0 => counts.refused[(ours >> 8) as u8 as usize] += 1,
-            tag => counts.answered[kind][tag as usize] += 1,
-        }
-    }
-    true
-}
-
-/// The number of the question, and both answers; nothing for a question that the judge does not take yet.
-fn ask(sheet: &[u8], question: &Question) -> Option<(usize, u64, u64)> {
-    Some(match question {
-        Question::Sheet => (0, proved::sheet(sheet), second::sheet(sheet)),
-        Question::Within { term, inside, set } => (
-            1,
-            proved::within(sheet, *term, *inside, set),
-            second::within(sheet, *term, *inside, set),
-        ),
-        Question::Derivable {
-            skeleton: k,
-            node: (s, p),
-            term,
-        } => (
-            2,
-            proved::derivable(sheet, *k, *s, *p, *term),
-            second::derivable(sheet, *k, *s, *p, *term),
-        ),
-        Question::Reach {
-            skeleton: k,
-            node: (s, p),
-        } => (
-            3,
-            proved::reach(sheet, *k, *s, *p),
-            second::reach(sheet, *k, *s, *p),
-        ),
-        Question::Realized { skeleton: k } => {
-            (4, proved::realized(sheet, *k), second::realized(sheet, *k))
-        }
-        Question::Map {
-            source,
-            target,
-            map,
-            lent: length,
-        } => ask_map(sheet, (*source, *target), map, *length),
-        Question::List { .. } => return None,
-    })
-}
-
-/// The map question with lent memory between canaries: where the memory differs, or a canary is gone, the words differ too.
-fn ask_map(sheet: &[u8], ends: (u8, u8), map: &[u8], length: usize) -> (usize, u64, u64) {
-    const CANARY: usize = 64;
-    let mut ours = lent(length + 2 * CANARY);
-    let mut theirs = lent(length + 2 * CANARY);
-    let place = CANARY..CANARY + length;
-    let word = proved::map(sheet, ends.0, ends.1, map, &mut ours[place.clone()]);
-    let other = second::map(sheet, ends.0, ends.1, map, &mut theirs[place]);
-    if ours == theirs {
-        (5, word, other)
-    } else {
-        (5, word, u64::MAX)
+fn of_a_seed(seed: u64, count: u64, first: u64) -> Result<(), String> {
+    let real = protocols::all();
+    let plan = Plan {
+        case: &|number| match number.checked_sub(count) {
+            None => Some(generated(seed, first + number)),
+            Some(index) => real.get(index as usize).map(|protocol| Case {
+                name: protocol.name.to_string(),
+                seed,
+                index,
+                sheet: protocol.sheet.clone(),
+            }),
+        },
+        ..Plan::new(Program::bench())
+    };
+    let tally = compare_all(&plan)?;
+    let (real, asked) = (real.len(), tally.asked);
+    println!("{count} sheets of seed {seed} and {real} real protocols:");
+    println!("no difference in {asked} questions and each bench text");
+    tally.print();
+    match count >= ENOUGH {
+        true => expect_all(&tally),
+        false => Ok(()),
     }
 }
 
-impl Counts {
-    /// Prints how often each answer occurs; false if one never does.
-    fn report(&self, count: u64) -> bool {
-        let names = ["sheet", "within", "derivable", "reach", "realized", "map"];
-        let two = [false, true, true, false, true, true];
-        println!("{count} sheets and the real protocols compared, no answer differs");
-        let mut all = true;
-        for (kind, name) in names.iter().enumerate() {
-            let [_, one, other] = self.answered[kind];
-            println!("{name:10} answered 1: {one:6}, 2: {other:6}");
-            all &= one > 0 && (other > 0 || !two[kind]);
-        }
-        for number in 1..=16 {
-            println!("refused {number:2}: {}", self.refused[number]);
-            all &= self.refused[number] > 0;
-        }
-        all
+fn expect_all(tally: &Tally) -> Result<(), String> {
+    let missing = tally.missing();
+    match missing.is_empty() {
+        true => Ok(()),
+        false => Err(format!("too seldom or never: {}", missing.join("; "))),
+    }
+}
+
+/// The program is started for one sheet in eleven only, so that more sheets are tried; the families of sheets take turns by
+/// twenties, so that it gets sheets of each.
+fn for_minutes(minutes: u64) -> Result<(), String> {
+    let clock = SystemTime::now().duration_since(UNIX_EPOCH);
+    let seed = clock.map_err(|error| error.to_string())?.as_secs();
+    let end = Instant::now() + Duration::from_secs(60 * minutes);
+    let of = |number: u64| (seed + number / OF_A_SEED, FRESH + number % OF_A_SEED);
+    let plan = Plan {
+        case: &|number| {
+            let (seed, index) = of(number);
+            (Instant::now() < end).then(|| generated(seed, index))
+        },
+        bench_every: 11,
+        ..Plan::new(Program::bench())
+    };
+    let tally = compare_all(&plan)?;
+    let (last, _) = of(tally.sheets - 1);
+    println!(
+        "{} sheets of seeds {seed} to {last}, from number {FRESH} on, {} questions: no difference",
+        tally.sheets, tally.asked
+    );
+    tally.print();
+    Ok(())
+}
+
+fn under_valgrind(count: u64) -> Result<(), String> {
+    let damaged: Vec<u64> = (FRESH..)
+        .filter(|&index| is_damaged(index))
+        .take(count as usize)
+        .collect();
+    let plan = Plan {
+        case: &|number| {
+            damaged
+                .get(number as usize)
+                .map(|&index| generated(1, index))
+        },
+        questions: false,
+        ..Plan::new(Program::bench().under_valgrind())
+    };
+    compare_all(&plan)?;
+    println!(
+        "the bench program under valgrind: {count} damaged sheets, no error and no difference"
+    );
+    Ok(())
+}
+
+fn generated(seed: u64, index: u64) -> Case {
+    Case {
+        name: format!("sheet {index} of seed {seed}"),
+        seed,
+        index,
+        sheet: generate(seed, index),
     }
 }

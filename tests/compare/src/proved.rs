@@ -1,5 +1,8 @@
-//! The proved functions. Each takes any bytes, so the calls are safe: a slice is a pointer and a length.
+//! The proved functions. Each takes any bytes, so the calls are safe: a slice is a pointer and a length, and an empty one
+//! has the null pointer.
 #![allow(dead_code)]
+
+use std::ptr::{null, null_mut};
 
 extern "C" {
     fn judge_sheet(sheet: *const u8, length: usize) -> u64;
@@ -31,57 +34,90 @@ extern "C" {
         images: *mut u8,
         images_length: usize,
     ) -> u64;
+    fn judge_list(
+        sheet: *const u8,
+        length: usize,
+        source: u8,
+        target: u8,
+        space: *mut u8,
+        space_length: usize,
+    ) -> u64;
+}
+
+fn start(bytes: &[u8]) -> *const u8 {
+    if bytes.is_empty() {
+        null()
+    } else {
+        bytes.as_ptr()
+    }
+}
+
+fn start_of_lent(bytes: &mut [u8]) -> *mut u8 {
+    if bytes.is_empty() {
+        null_mut()
+    } else {
+        bytes.as_mut_ptr()
+    }
 }
 
 pub fn sheet(sheet: &[u8]) -> u64 {
-    unsafe { judge_sheet(sheet.as_ptr(), sheet.len()) }
+    unsafe { judge_sheet(start(sheet), sheet.len()) }
 }
 
 pub fn within(sheet: &[u8], term: u8, inside: u8, set: &[u8]) -> u64 {
     unsafe {
         judge_within(
-            sheet.as_ptr(),
+            start(sheet),
             sheet.len(),
             term,
             inside,
-            set.as_ptr(),
+            start(set),
             set.len(),
         )
     }
 }
 
 pub fn derivable(sheet: &[u8], skeleton: u8, strand: u8, position: u8, term: u8) -> u64 {
-    unsafe {
-        judge_derivable(
-            sheet.as_ptr(),
-            sheet.len(),
-            skeleton,
-            strand,
-            position,
-            term,
-        )
-    }
+    unsafe { judge_derivable(start(sheet), sheet.len(), skeleton, strand, position, term) }
 }
 
 pub fn reach(sheet: &[u8], skeleton: u8, strand: u8, position: u8) -> u64 {
-    unsafe { judge_reach(sheet.as_ptr(), sheet.len(), skeleton, strand, position) }
+    unsafe { judge_reach(start(sheet), sheet.len(), skeleton, strand, position) }
 }
 
 pub fn realized(sheet: &[u8], skeleton: u8) -> u64 {
-    unsafe { judge_realized(sheet.as_ptr(), sheet.len(), skeleton) }
+    unsafe { judge_realized(start(sheet), sheet.len(), skeleton) }
 }
 
 pub fn map(sheet: &[u8], source: u8, target: u8, map: &[u8], images: &mut [u8]) -> u64 {
     unsafe {
         judge_map(
-            sheet.as_ptr(),
+            start(sheet),
             sheet.len(),
             source,
             target,
-            map.as_ptr(),
+            start(map),
             map.len(),
-            images.as_mut_ptr(),
+            start_of_lent(images),
             images.len(),
         )
     }
 }
+
+pub fn list(sheet: &[u8], source: u8, target: u8, space: &mut [u8]) -> u64 {
+    unsafe {
+        judge_list(
+            start(sheet),
+            sheet.len(),
+            source,
+            target,
+            start_of_lent(space),
+            space.len(),
+        )
+    }
+}
+
+/// The proved judge.
+pub struct Proved;
+
+sheets::judge_by!(Proved, crate::proved);

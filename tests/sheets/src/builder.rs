@@ -29,6 +29,8 @@ pub mod limit {
     pub const LONGEST: usize = 2581;
     pub const READ: usize = 4096;
     pub const LIST_SPACE: usize = 49_152;
+    /// What all maps of six strands to six take.
+    pub const MOST_MAPS: usize = 6 * 46_656;
 }
 
 pub const SEND: u8 = 0;
@@ -149,10 +151,6 @@ impl Sheet {
         self.named(kind::TAG, name)
     }
 
-    pub fn message(&mut self, name: &str) -> u8 {
-        self.named(kind::MESSAGE, name)
-    }
-
     pub fn text(&mut self, name: &str) -> u8 {
         self.named(kind::TEXT, name)
     }
@@ -161,16 +159,8 @@ impl Sheet {
         self.named(kind::DATA, name)
     }
 
-    pub fn name(&mut self, name: &str) -> u8 {
-        self.named(kind::NAME, name)
-    }
-
     pub fn skey(&mut self, name: &str) -> u8 {
         self.named(kind::SKEY, name)
-    }
-
-    pub fn akey(&mut self, name: &str) -> u8 {
-        self.named(kind::AKEY, name)
     }
 
     pub fn public(&mut self, name: u8) -> u8 {

@@ -14,9 +14,9 @@ fn walked() -> &'static [Vec<u8>] {
         let random = |number| good::random(&mut Rng::of(17, number)).bytes();
         let sheets = [
             crate::example(),
-            protocols::lowe_attack(),
-            protocols::kerberos_attack(),
-            protocols::exercise(),
+            protocols::named("lowe-attack"),
+            protocols::named("kerberos-attack"),
+            protocols::named("exercise"),
         ];
         sheets.into_iter().chain((0..4).map(random)).collect()
     })

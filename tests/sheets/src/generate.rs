@@ -31,6 +31,11 @@ pub fn generate(seed: u64, index: u64) -> Vec<u8> {
     }
 }
 
+/// Sheets that were good before something was done to them.
+pub fn is_damaged(index: u64) -> bool {
+    matches!(index % FAMILIES, 0..=3 | 5..=7)
+}
+
 fn one_fault(rng: &mut Rng, number: usize) -> Vec<u8> {
     let sheet = sound(rng);
     faults::with_faults(rng, &sheet, &[number % faults::REFUSALS + 1])
@@ -49,7 +54,7 @@ fn sound(rng: &mut Rng) -> Vec<u8> {
     match rng.below(6) {
         0 => maps::sorts(rng).bytes(),
         1 => crate::example(),
-        2 => rng.pick(protocols::sheets()).clone(),
+        2 => rng.pick(protocols::all()).sheet.clone(),
         _ => good::random(rng).bytes(),
     }
 }
@@ -68,8 +73,8 @@ fn deep(rng: &mut Rng, number: usize) -> Vec<u8> {
 
 /// A real protocol, as it is or with an order or an assumption lost or changed.
 fn protocol(rng: &mut Rng, number: usize) -> Vec<u8> {
-    let all = protocols::sheets();
-    let mut sheet = Sheet::read(&all[number % all.len()]);
+    let all = protocols::all();
+    let mut sheet = Sheet::read(&all[number % all.len()].sheet);
     for _ in 0..rng.below(3) {
         let side = rng.below(sheet.skeletons.len());
         let parts = sheet.terms.len();

@@ -1,8 +1,11 @@
-//! Asking a judge: any program with the seven questions and the bench text.
+//! Asking a judge: any program with the seven questions.
 
+use std::sync::OnceLock;
+
+use crate::builder::limit;
 use crate::questions::Question;
 
-/// The seven questions, each answered by one word, and the bench text.
+/// The seven questions, each answered by one word.
 pub trait Judge {
     fn sheet(&self, sheet: &[u8]) -> u64;
     fn within(&self, sheet: &[u8], term: u8, inside: u8, set: &[u8]) -> u64;
@@ -11,17 +14,31 @@ pub trait Judge {
     fn realized(&self, sheet: &[u8], skeleton: u8) -> u64;
     fn map(&self, sheet: &[u8], source: u8, target: u8, map: &[u8], images: &mut [u8]) -> u64;
     fn list(&self, sheet: &[u8], source: u8, target: u8, space: &mut [u8]) -> u64;
-    fn bench(&self, input: &[u8]) -> Vec<u8>;
 }
 
-/// The answer word and the lent memory afterwards.
+/// How many bytes are kept in view before the lent memory, and as many behind it.
+const CANARY: usize = 64;
+
+/// The answer word, and the lent memory afterwards with the canaries before and behind it.
 #[derive(Clone, Debug, PartialEq, Eq)]
 pub struct Answer {
     pub word: u64,
-    pub lent: Vec<u8>,
+    memory: Vec<u8>,
 }
 
 impl Answer {
+    /// The lent memory.
+    pub fn lent(&self) -> &[u8] {
+        &self.memory[CANARY..self.memory.len() - CANARY]
+    }
+
+    /// Nothing was written but the first `written` bytes of the lent memory.
+    pub fn writes_only(&self, written: usize) -> bool {
+        let before = fresh(self.memory.len());
+        let end = CANARY + written;
+        self.memory[..CANARY] == before[..CANARY] && self.memory[end..] == before[end..]
+    }
+
     pub fn tag(&self) -> u8 {
         self.word as u8
     }
@@ -39,13 +56,17 @@ impl Answer {
     }
 }
 
-/// Lent memory as it is before a question: bytes that no answer would write by chance.
-pub fn lent(length: usize) -> Vec<u8> {
-    (0..length).map(|at| (at % 101) as u8 + 150).collect()
+/// Memory as it is before a question: bytes that no answer would write by chance.
+fn fresh(length: usize) -> &'static [u8] {
+    static BYTES: OnceLock<Vec<u8>> = OnceLock::new();
+    let most = limit::MOST_MAPS + 10 * CANARY;
+    let bytes = BYTES.get_or_init(|| (0..most).map(|at| (at % 101) as u8 + 150).collect());
+    &bytes[..length]
 }
 
 pub fn ask(judge: &impl Judge, sheet: &[u8], question: &Question) -> Answer {
-    let mut memory = lent(question.lent());
+    let mut memory = fresh(question.lent() + 2 * CANARY).to_vec();
+    let lent = &mut memory[CANARY..][..question.lent()];
     let word = match question {
         Question::Sheet => judge.sheet(sheet),
         Question::Within { term, inside, set } => judge.within(sheet, *term, *inside, set),
@@ -61,82 +82,62 @@ pub fn ask(judge: &impl Judge, sheet: &[u8], question: &Question) -> Answer {
             target,
             map,
             ..
-        } => judge.map(sheet, *source, *target, map, &mut memory),
-        Question::List { source, target, .. } => judge.list(sheet, *source, *target, &mut memory),
+        } => judge.map(sheet, *source, *target, map, lent),
+        Question::List { source, target, .. } => judge.list(sheet, *source, *target, lent),
     };
-    Answer { word, lent: memory }
+    Answer { word, memory }
+}
+
+/// Makes a judge of a module that has the seven questions as functions. They may take something of
+/// the judge's first.
+#[macro_export]
+macro_rules! judge_by {
+    ($judge:ty, $($module:ident)::+ $(, $own:ident => $first:expr)?) => {
+        impl $crate::judge::Judge for $judge {
+            fn sheet(&self, sheet: &[u8]) -> u64 {
+                $(let $own = self;)?
+                $($module)::+::sheet($($first,)? sheet)
+            }
+
+            fn within(&self, sheet: &[u8], term: u8, inside: u8, set: &[u8]) -> u64 {
+                $(let $own = self;)?
+                $($module)::+::within($($first,)? sheet, term, inside, set)
+            }
+
+            fn derivable(&self, sheet: &[u8], skeleton: u8, strand: u8, position: u8, term: u8) -> u64 {
+                $(let $own = self;)?
+                $($module)::+::derivable($($first,)? sheet, skeleton, strand, position, term)
+            }
+
+            fn reach(&self, sheet: &[u8], skeleton: u8, strand: u8, position: u8) -> u64 {
+                $(let $own = self;)?
+                $($module)::+::reach($($first,)? sheet, skeleton, strand, position)
+            }
+
+            fn realized(&self, sheet: &[u8], skeleton: u8) -> u64 {
+                $(let $own = self;)?
+                $($module)::+::realized($($first,)? sheet, skeleton)
+            }
+
+            fn map(&self, sheet: &[u8], source: u8, target: u8, map: &[u8], images: &mut [u8]) -> u64 {
+                $(let $own = self;)?
+                $($module)::+::map($($first,)? sheet, source, target, map, images)
+            }
+
+            fn list(&self, sheet: &[u8], source: u8, target: u8, space: &mut [u8]) -> u64 {
+                $(let $own = self;)?
+                $($module)::+::list($($first,)? sheet, source, target, space)
+            }
+        }
+    };
 }
 
 /// The second program as it is.
 pub struct Straight;
 
-impl Judge for Straight {
-    fn sheet(&self, sheet: &[u8]) -> u64 {
-        second::sheet(sheet)
-    }
-
-    fn within(&self, sheet: &[u8], term: u8, inside: u8, set: &[u8]) -> u64 {
-        second::within(sheet, term, inside, set)
-    }
-
-    fn derivable(&self, sheet: &[u8], skeleton: u8, strand: u8, position: u8, term: u8) -> u64 {
-        second::derivable(sheet, skeleton, strand, position, term)
-    }
-
-    fn reach(&self, sheet: &[u8], skeleton: u8, strand: u8, position: u8) -> u64 {
-        second::reach(sheet, skeleton, strand, position)
-    }
-
-    fn realized(&self, sheet: &[u8], skeleton: u8) -> u64 {
-        second::realized(sheet, skeleton)
-    }
-
-    fn map(&self, sheet: &[u8], source: u8, target: u8, map: &[u8], images: &mut [u8]) -> u64 {
-        second::map(sheet, source, target, map, images)
-    }
-
-    fn list(&self, sheet: &[u8], source: u8, target: u8, space: &mut [u8]) -> u64 {
-        second::list(sheet, source, target, space)
-    }
-
-    fn bench(&self, input: &[u8]) -> Vec<u8> {
-        second::bench(input)
-    }
-}
+judge_by!(Straight, second);
 
 /// The second program with the slip of this number planted.
 pub struct Slipped(pub u8);
 
-impl Judge for Slipped {
-    fn sheet(&self, sheet: &[u8]) -> u64 {
-        second::slipped::sheet(self.0, sheet)
-    }
-
-    fn within(&self, sheet: &[u8], term: u8, inside: u8, set: &[u8]) -> u64 {
-        second::slipped::within(self.0, sheet, term, inside, set)
-    }
-
-    fn derivable(&self, sheet: &[u8], skeleton: u8, strand: u8, position: u8, term: u8) -> u64 {
-        second::slipped::derivable(self.0, sheet, skeleton, strand, position, term)
-    }
-
-    fn reach(&self, sheet: &[u8], skeleton: u8, strand: u8, position: u8) -> u64 {
-        second::slipped::reach(self.0, sheet, skeleton, strand, position)
-    }
-
-    fn realized(&self, sheet: &[u8], skeleton: u8) -> u64 {
-        second::slipped::realized(self.0, sheet, skeleton)
-    }
-
-    fn map(&self, sheet: &[u8], source: u8, target: u8, map: &[u8], images: &mut [u8]) -> u64 {
-        second::slipped::map(self.0, sheet, source, target, map, images)
-    }
-
-    fn list(&self, sheet: &[u8], source: u8, target: u8, space: &mut [u8]) -> u64 {
-        second::slipped::list(self.0, sheet, source, target, space)
-    }
-
-    fn bench(&self, input: &[u8]) -> Vec<u8> {
-        second::slipped::bench(self.0, input)
-    }
-}
+judge_by!(Slipped, second::slipped, judge => judge.0);

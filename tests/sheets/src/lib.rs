@@ -15,9 +15,11 @@ pub mod protocols;
 mod questions;
 mod records;
 mod rng;
+pub mod stored;
+pub mod tally;
 
-pub use generate::generate;
-pub use questions::{questions, Question};
+pub use generate::{generate, is_damaged};
+pub use questions::{pair_questions, questions, Question};
 pub use rng::Rng;
 
 /// The 105-byte sheet of document 01, from 000 section 5.1.

@@ -40,6 +40,33 @@ pub enum Question {
 }
 
 impl Question {
+    pub const NAMES: [&'static str; 7] = [
+        "sheet",
+        "within",
+        "derivable",
+        "reach",
+        "realized",
+        "map",
+        "list",
+    ];
+
+    /// The question's place among the names.
+    pub fn number(&self) -> usize {
+        match self {
+            Question::Sheet => 0,
+            Question::Within { .. } => 1,
+            Question::Derivable { .. } => 2,
+            Question::Reach { .. } => 3,
+            Question::Realized { .. } => 4,
+            Question::Map { .. } => 5,
+            Question::List { .. } => 6,
+        }
+    }
+
+    pub fn name(&self) -> &'static str {
+        Self::NAMES[self.number()]
+    }
+
     /// How many bytes are lent for the answer.
     pub fn lent(&self) -> usize {
         match self {
@@ -51,14 +78,8 @@ impl Question {
 
 /// The questions for sheet number `index` of the stream of `seed`.
 pub fn questions(seed: u64, index: u64, sheet: &[u8]) -> Vec<Question> {
-    let mut asker = Asker {
-        rng: Rng::of(seed ^ 0x5bd1_e995, index),
-        sheet,
-        outline: Sheet::read(sheet),
-        lists: HashMap::new(),
-    };
-    let good = second::sheet(sheet) as u8 == 1;
-    let kinds: &[u8] = if good {
+    let mut asker = Asker::new(Rng::of(seed ^ 0x5bd1_e995, index), sheet);
+    let kinds: &[u8] = if good(sheet) {
         &[0, 1, 1, 2, 2, 2, 3, 3, 4, 4, 5, 5, 5, 6, 6]
     } else {
         &[
@@ -70,6 +91,38 @@ pub fn questions(seed: u64, index: u64, sheet: &[u8]) -> Vec<Question> {
     kinds.iter().map(|&kind| asker.question(kind)).collect()
 }
 
+/// The map and the list from one skeleton of a sheet to another, with every length of lent memory
+/// that matters; about a bad sheet one of each.
+pub fn pair_questions(seed: u64, index: u64, sheet: &[u8]) -> Vec<Question> {
+    let mut asker = Asker::new(Rng::of(seed ^ 0x2545_f491, index), sheet);
+    if !good(sheet) {
+        return vec![asker.map(), asker.list()];
+    }
+    let (source, target) = asker.skeletons_there_or_not();
+    let map = asker.strand_map(source, target);
+    let tables = asker.table_lengths().into_iter();
+    let maps = tables.map(|lent| Question::Map {
+        source,
+        target,
+        map: map.clone(),
+        lent,
+    });
+    let spaces = asker.space_lengths(source, target).into_iter();
+    let lists = spaces.map(|lent| Question::List {
+        source,
+        target,
+        lent,
+    });
+    maps.chain(lists).collect()
+}
+
+fn good(sheet: &[u8]) -> bool {
+    second::sheet(sheet) as u8 == 1
+}
+
+/// From this many strand maps on, listing is asked twice only: it takes long.
+const MANY: usize = 3_000;
+
 struct Asker<'a> {
     rng: Rng,
     sheet: &'a [u8],
@@ -79,7 +132,16 @@ struct Asker<'a> {
     lists: HashMap<(u8, u8), Option<Vec<u8>>>,
 }
 
-impl Asker<'_> {
+impl<'a> Asker<'a> {
+    fn new(rng: Rng, sheet: &'a [u8]) -> Self {
+        Asker {
+            rng,
+            sheet,
+            outline: Sheet::read(sheet),
+            lists: HashMap::new(),
+        }
+    }
+
     fn question(&mut self, kind: u8) -> Question {
         match kind {
             0 => Question::Sheet,
@@ -319,5 +381,48 @@ impl Asker<'_> {
             target,
             lent,
         }
+    }
+
+    /// Two skeletons that are there; one time in eight at least one that is not.
+    fn skeletons_there_or_not(&mut self) -> (u8, u8) {
+        let there = self.outline.skeletons.len();
+        let (source, target) = (self.rng.below(there) as u8, self.rng.below(there) as u8);
+        let missing = *self.rng.pick(&[there as u8, 2, 2, 255]);
+        match self.rng.below(24) {
+            0 => (missing, target),
+            1 => (source, missing),
+            2 => (missing, 255),
+            _ if there == 2 && self.rng.chance(1, 2) => (0, 1),
+            _ => (source, target),
+        }
+    }
+
+    /// One byte short of an image table, exactly one, and more.
+    fn table_lengths(&mut self) -> [usize; 3] {
+        let terms = self.outline.terms.len();
+        let more = terms + self.rng.between(1, 60);
+        [terms.saturating_sub(1), terms, more]
+    }
+
+    /// One byte short of all maps, exactly as much, more, none, and what the bench lends.
+    fn space_lengths(&mut self, source: u8, target: u8) -> Vec<usize> {
+        let exact = self.space_needed(source, target);
+        let more = exact + self.rng.between(1, 60);
+        let mut lengths = vec![exact.saturating_sub(1), exact, more, 0, limit::LIST_SPACE];
+        let strands = |skeleton| self.drawn(skeleton).strands.len();
+        if strands(target).pow(strands(source) as u32) > MANY {
+            self.rng.shuffle(&mut lengths);
+            lengths.truncate(2);
+        }
+        lengths
+    }
+
+    fn space_needed(&mut self, source: u8, target: u8) -> usize {
+        if let Some(maps) = self.maps(source, target) {
+            return maps.len();
+        }
+        let mut space = vec![0; limit::MOST_MAPS];
+        let answer = second::list(self.sheet, source, target, &mut space);
+        (answer >> 32) as usize * self.drawn(source).strands.len()
     }
 }

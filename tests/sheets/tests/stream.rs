@@ -1,13 +1,10 @@
 //! The sheets are what they are said to be.
 
 use sheets::judge::{ask, Answer, Straight};
-use sheets::{generate, questions, Question};
+use sheets::{generate, pair_questions, questions, Question};
 
 fn word(sheet: &[u8]) -> (u8, u8, u32) {
-    let answer = Answer {
-        word: second::sheet(sheet),
-        lent: Vec::new(),
-    };
+    let answer = ask(&Straight, sheet, &Question::Sheet);
     (answer.tag(), answer.x(), answer.z())
 }
 
@@ -98,7 +95,7 @@ fn shared_messages_have_the_depth_asked_for() {
         assert_eq!(second::realized(&sheet, 1), 1);
         let answer = maps(&sheet, 2);
         assert_eq!(
-            (answer.tag(), answer.z(), &answer.lent[..]),
+            (answer.tag(), answer.z(), answer.lent()),
             (1, 1, &[0, 1][..])
         );
     }
@@ -122,5 +119,7 @@ fn the_stream_can_be_made_again() {
         let sheet = generate(9, index);
         assert_eq!(sheet, generate(9, index));
         assert_eq!(questions(9, index, &sheet), questions(9, index, &sheet));
+        let pairs = || pair_questions(9, index, &sheet);
+        assert_eq!(pairs(), pairs());
     }
 }

@@ -3,7 +3,7 @@
 
 use std::process::ExitCode;
 
-use sheets::judge::{ask, Answer, Judge, Slipped, Straight};
+use sheets::judge::{ask, Answer, Slipped, Straight};
 use sheets::{generate, questions, Question};
 
 fn main() -> ExitCode {
@@ -45,7 +45,7 @@ struct Case {
 impl Case {
     fn new(seed: u64, index: u64) -> Self {
         let sheet = generate(seed, index);
-        let text = Straight.bench(&sheet);
+        let text = second::bench(&sheet);
         let questions = questions(seed, index, &sheet).into_iter();
         let answered = |question| {
             let answer = ask(&Straight, &sheet, &question);
@@ -61,22 +61,14 @@ impl Case {
 
     /// Where the slip makes a difference, if it does.
     fn shows(&self, slip: u8) -> Option<&'static str> {
-        let judge = Slipped(slip);
-        if judge.bench(&self.sheet) != self.text {
+        if second::slipped::bench(slip, &self.sheet) != self.text {
             return Some("bench");
         }
+        let judge = Slipped(slip);
         let differs = |(question, answer): &&(Question, Answer)| {
             ask(&judge, &self.sheet, question) != *answer
         };
         let found = self.answers.iter().find(differs);
-        found.map(|(question, _)| match question {
-            Question::Sheet => "sheet",
-            Question::Within { .. } => "within",
-            Question::Derivable { .. } => "derivable",
-            Question::Reach { .. } => "reach",
-            Question::Realized { .. } => "realized",
-            Question::Map { .. } => "map",
-            Question::List { .. } => "list",
-        })
+        found.map(|(question, _)| question.name())
     }
 }
