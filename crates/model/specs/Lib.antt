@@ -24,5 +24,9 @@ pub mod Says
 pub mod Lines
 -- Laws that hold the definitions in their place.
 pub mod Laws
-pub mod SkeletonLaws
+pub mod TableLaws
 pub mod ReadingLaws
+pub mod SkeletonLaws
+pub mod RepeatLaws
+pub mod SaysLaws
+pub mod LinesLaws
