@@ -4,3 +4,4 @@ pub mod Cases
 pub mod RuleCases
 pub mod Refusals
 pub mod Limits
+pub mod Longest
