@@ -1,4 +1,4 @@
--- Bad sheets for each refusal 1 to 14, for each mark out of order and for each limit, for the definitions themselves.
+-- Bad sheets for each refusal 1 to 14, some for each, for the definitions themselves. The limits are in Limits.
 use mathlib.Core.Path.{_≡_}
 use mathlib.Core.Bool.{Bool, false, _&&_}
 use mathlib.Core.List.{List, [], _∷_, _++_}
@@ -24,7 +24,7 @@ bad number place skeleton bytes =
 unfoldable pub IsRefused : BadSheet → Type 0
 IsRefused b = HasVerdict (b .bytes) (refused (b .refusal))
 
--- a tag, a text; a tag is sent and received
+-- the terms are a text 0 and a tag 1; one strand sends the tag, another receives it
 unfoldable two-terms : List ℕ
 unfolding hex
 two-terms = hex "4253 01 / 544d 020000 / 544d 000000 / 534b / 5354 01 0001 / 5354 01 0101"

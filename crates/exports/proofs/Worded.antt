@@ -20,7 +20,7 @@ use Rattle.exports.specs.Words.{word, refusal-word, sheet-word, yes-no-w
 use Rattle.exports.specs.Said.{SaidAs}
 
 module _ {bytes : List ℕ} {a : SheetAnswer} (g : Gives bytes AskSheet (sheet-says a) [] × SmallSheet a) where
-  pub good-small : (terms skeletons : ℕ) → a ≡ SheetAnswer.Good terms skeletons → (terms ≤ 255) × (skeletons ≤ 255)
+  pub good-small : (terms skeletons : ℕ) → a ≡ SheetAnswer.Good terms skeletons → (terms ≤ 200) × (skeletons ≤ 2)
   good-small terms skeletons e = rw e at (g .1)
 
   pub good-word : (terms skeletons w : ℕ) → a ≡ SheetAnswer.Good terms skeletons → w ≡ word 1 (skeletons % 256) 0 terms
@@ -55,7 +55,7 @@ yes-no-small a r g e = rw e at g
 
 -- the reach
 module _ {bytes after : List ℕ} (Question : Verdict → Answer ℕ → List ℕ → Type 0) (a : ReachAnswer) (g : Gives bytes Question (reach-says a) after × SmallReach a) where
-  pub reach-low : (count : ℕ) → a ≡ ReachAnswer.Reach count → count ≤ 256
+  pub reach-low : (count : ℕ) → a ≡ ReachAnswer.Reach count → count ≤ 200
   reach-low count e = rw e at (g .1)
 
   pub reach-refused-low : (r : Refusal) → a ≡ ReachAnswer.Refused r → SmallRefusal r

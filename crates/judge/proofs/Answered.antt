@@ -1,41 +1,47 @@
 -- A refused sheet gives its refusal to every question; an accepted one gives its counts. Assumes nothing.
-use mathlib.Core.Path.{_≡_, refl, ap, _∙_, sym as back}
-use mathlib.Core.List.{List, [], _∷_, List·Memᴰ, List·Memᴰ·head, List·Memᴰ·tail}
-use Prim.Native.Nat.{ℕ, suc, _+_, _≤_, _<_}
+use mathlib.Core.Path.{_≡_, refl, _∙_, sym as back}
+use mathlib.Core.List.{List, []}
+use Prim.Native.Nat.{ℕ, _≤_}
 use native.Mathlib.Omega.{arith}
-use lib.ListN.{length}
 use Rattle.model.specs.declared.Refusal.{Refusal}
+use Rattle.terms.specs.declared.Node.{Node as CodeNode}
+use Rattle.model.specs.declared.SheetAnswer.{SheetAnswer}
 use Rattle.model.specs.declared.YesNo.{YesNo}
 use Rattle.model.specs.declared.ReachAnswer.{ReachAnswer}
 use Rattle.model.specs.declared.RealizedAnswer.{RealizedAnswer}
 use Rattle.model.specs.declared.MapAnswer.{MapAnswer}
 use Rattle.model.specs.declared.ListAnswer.{ListAnswer}
 use Rattle.model.specs.Skeleton.{Node}
-use Rattle.model.specs.Sheet.{Sheet, Verdict, Drawing}
+use Rattle.model.specs.Sheet.{Sheet, Verdict}
 use Rattle.model.specs.Judging.{HasVerdict}
-use Rattle.model.specs.Rising.{Rising, more}
-use Rattle.model.specs.Answers.{Answer, answered, refused, Asked, bad-sheet, no-such, too-short, said, Gives, AskSheet, AskWithin, AskDerivable, AskReach, AskRealized, AskMap, AskList}
-use Rattle.model.specs.Says.{refusal-of, yes-no-says, reach-says, realized-says, map-says, list-says}
+use Rattle.model.specs.Answers.{Answer, answered, refused, Asked, bad-sheet, said, Gives, open-at, breaks, AskSheet, AskWithin, AskDerivable, AskReach, AskRealized, AskMap, AskList}
+use Rattle.model.specs.Says.{node-of, refusal-of, sheet-says, yes-no-says, reach-says, realized-says, map-says, list-says}
 use Rattle.theory.specs.Upto.{length-upto}
-use Rattle.theory.specs.Lengths.{verdict-places}
-use Rattle.tables.specs.Tables.{byte, row-at, rows-of, skeleton-in, sheet-in, Filled}
+use Rattle.theory.specs.Sizes.{LowRefusal, verdict-low, LowAnswer, low-refusal, low-answer, LowCounts, sheet-low, Any, within-low, derivable-low, reach-low, LowOpenness, low-open, realized-low, LowMapping, low-rule, map-low, list-low}
+use Rattle.tables.specs.Tables.{byte, row-at, rows-of, skeleton-in, sheet-in}
 use Rattle.accept.specs.declared.Accepted.{Accepted}
 use Rattle.accept.specs.Held.{AcceptedAs, Held}
-use Rattle.listing.specs.Found.{FewMaps}
-use Rattle.judge.specs.Small.{SmallYesNo, SmallReach, SmallRealized, SmallMap, SmallList}
+use Rattle.judge.specs.Small.{SmallRefusal, SmallSheet, SmallYesNo, SmallReach, SmallRealized, SmallMap, SmallList}
 
-pub was-refused : {bytes t inverses : List ℕ} {a : Accepted} (r : Refusal) → AcceptedAs bytes t inverses a → a ≡ Accepted.Refused r
+pub was-refused : {bytes t inverses : List ℕ} {a : Accepted} (r : Refusal)
+    → AcceptedAs bytes t inverses a → a ≡ Accepted.Refused r
     → HasVerdict bytes (Verdict.refused (refusal-of r))
 was-refused r (AcceptedAs.refused {r = q} h) e = let z : q ≡ r = cc in rw z at h
 was-refused r (AcceptedAs.good h) e = let z : _≡_ {A = ℕ} 0 1 = cc in absurd (omega arith)
 
-pub was-good : {bytes t inverses : List ℕ} {a : Accepted} → AcceptedAs bytes t inverses a → a ≡ Accepted.Good → Held bytes t inverses
+pub was-good : {bytes t inverses : List ℕ} {a : Accepted} → AcceptedAs bytes t inverses a → a ≡ Accepted.Good
+    → Held bytes t inverses
 was-good (AcceptedAs.refused h) e = let z : _≡_ {A = ℕ} 0 1 = cc in absurd (omega arith)
 was-good (AcceptedAs.good h) e = h
 
-pub refused-small : {bytes t inverses : List ℕ} {a : Accepted} (r : Refusal) → AcceptedAs bytes t inverses a → a ≡ Accepted.Refused r → r .place ≤ 2581
+low-refused : {r : Refusal} → LowRefusal (refusal-of r) → SmallRefusal r
 unfolding refusal-of
-refused-small r h e = verdict-places (was-refused r h e)
+low-refused l = (l .number, l .place, l .skeleton)
+
+pub refused-small : {bytes t inverses : List ℕ} {a : Accepted} (r : Refusal)
+    → AcceptedAs bytes t inverses a → a ≡ Accepted.Refused r
+    → SmallRefusal r
+refused-small r h e = low-refused (verdict-low (was-refused r h e))
 
 -- the sheet's refusal, whatever is asked
 module _ {X A : Type 0} (Subject : Sheet → X → Type 0) (Room : X → Type 0) (Says : X → A → List ℕ → Type 0) (lent : List ℕ) where
@@ -45,7 +51,8 @@ module _ {X A : Type 0} (Subject : Sheet → X → Type 0) (Room : X → Type 0)
 
 -- the sheet question
 
-pub sheet-refused : {bytes t inverses : List ℕ} {a : Accepted} (r : Refusal) → AcceptedAs bytes t inverses a → a ≡ Accepted.Refused r
+pub sheet-refused : {bytes t inverses : List ℕ} {a : Accepted} (r : Refusal)
+    → AcceptedAs bytes t inverses a → a ≡ Accepted.Refused r
     → Gives bytes AskSheet (refused (refusal-of r)) []
 unfolding AskSheet
 sheet-refused r h e = refuses _ _ _ [] r h e
@@ -57,7 +64,11 @@ sheet-counts {t} m n h p q =
     record {
       verdict = Verdict.accepted (sheet-in t);
       judged = h .verdict;
-      is = said (record { same = refl }) tt (record { terms = p ∙ back (length-upto (byte t 600) (row-at t)); skeletons = q ∙ back (length-upto (byte t 601) (skeleton-in t)); kept = refl });
+      is = said (record { same = refl }) tt (record {
+        terms = p ∙ back (length-upto (byte t 600) (row-at t));
+        skeletons = q ∙ back (length-upto (byte t 601) (skeleton-in t));
+        kept = refl;
+      });
     }
 
 -- Questions about an accepted sheet
@@ -68,117 +79,97 @@ module _ {A : Type 0} (Question : Verdict → Answer A → List ℕ → Type 0) 
       → Gives bytes Question a after
   gives-held {t} h q = record { verdict = Verdict.accepted (sheet-in t); judged = h .verdict; is = q }
 
--- refusals 15 and 16 have place 0
-place-of : {A : Type 0} → Answer A → ℕ
-place-of (refused r) = r .place
-place-of (answered a) = 0
+-- How large the numbers are follows from what the answer says
 
-at-none : {A : Type 0} (r : Refusal) (n : ℕ) → _≡_ {A = Answer A} (refused (record { number = n; place = 0; skeleton = 0 })) (refused (refusal-of r))
-    → r .place ≤ 2581
-unfolding refusal-of place-of
-at-none r n e = omega (arith, ap place-of e)
+module _ {A : Type 0} (Small : A → Type 0) where
+  small-refused : {r : Refusal} → LowAnswer Small (refused (refusal-of r)) → SmallRefusal r
+  small-refused (low-refusal l) = low-refused l
 
-module _ {X A : Type 0} {Subject : Sheet → X → Type 0} {Room : X → Type 0} {Says : X → A → List ℕ → Type 0} {lent : List ℕ} where
-  pub asked-small : {s : Sheet} {a : Answer A} {after : List ℕ} (r : Refusal) → Asked Subject Room Says lent (Verdict.accepted s) a after
-      → a ≡ refused (refusal-of r)
-      → r .place ≤ 2581
-  unfolding refusal-of
-  asked-small r (no-such h) e = at-none r 15 e
-  asked-small r (too-short h k) e = at-none r 16 e
-  asked-small r (said h k p) e = let z : _≡_ {A = ℕ} 0 1 = cc in absurd (omega arith)
+  small-answer : {x : A} → LowAnswer Small (answered x) → Small x
+  small-answer (low-answer l) = l
 
--- within
-pub within-refused : {bytes t inverses : List ℕ} {a : Accepted} (x y : ℕ) (S : List ℕ) (r : Refusal) → AcceptedAs bytes t inverses a
-    → a ≡ Accepted.Refused r
+low-node : (n : CodeNode) → LowOpenness (open-at (node-of n)) → (n .strand .0 ≤ 5) × (n .position ≤ 15)
+unfolding node-of
+low-node n (low-open l) = (l .strand, l .position)
+
+low-broken : {rule : ℕ} → LowMapping (breaks rule) → (1 ≤ rule) × (rule ≤ 6)
+low-broken (low-rule h l) = (h, l)
+
+module _ {bytes after : List ℕ} where
+  pub sheet-small : (r : SheetAnswer) → Gives bytes AskSheet (sheet-says r) after → SmallSheet r
+  unfolding sheet-says
+  sheet-small (SheetAnswer.Good terms skeletons) g = let l = small-answer LowCounts (sheet-low g) in (l .terms, l .skeletons)
+  sheet-small (SheetAnswer.Refused r) g = small-refused LowCounts (sheet-low g)
+
+  pub within-small : (x y : ℕ) (S : List ℕ) (r : YesNo) → Gives bytes (AskWithin x y S) (yes-no-says r) after → SmallYesNo r
+  unfolding yes-no-says
+  within-small x y S YesNo.Yes g = tt
+  within-small x y S YesNo.No g = tt
+  within-small x y S (YesNo.Refused r) g = small-refused Any (within-low x y S g)
+
+  pub derivable-small : (k : ℕ) (n : Node) (x : ℕ) (r : YesNo) → Gives bytes (AskDerivable k n x) (yes-no-says r) after
+      → SmallYesNo r
+  unfolding yes-no-says
+  derivable-small k n x YesNo.Yes g = tt
+  derivable-small k n x YesNo.No g = tt
+  derivable-small k n x (YesNo.Refused r) g = small-refused Any (derivable-low k n x g)
+
+  pub reach-small : (k : ℕ) (n : Node) (r : ReachAnswer) → Gives bytes (AskReach k n) (reach-says r) after → SmallReach r
+  unfolding reach-says
+  reach-small k n (ReachAnswer.Reach count) g = small-answer (λ c. c ≤ 200) (reach-low k n g)
+  reach-small k n (ReachAnswer.Refused r) g = small-refused (λ c. c ≤ 200) (reach-low k n g)
+
+  pub realized-small : (k : ℕ) (r : RealizedAnswer) → Gives bytes (AskRealized k) (realized-says r) after → SmallRealized r
+  unfolding realized-says
+  realized-small k RealizedAnswer.Realized g = tt
+  realized-small k (RealizedAnswer.Open n) g = low-node n (small-answer LowOpenness (realized-low k g))
+  realized-small k (RealizedAnswer.Refused r) g = small-refused LowOpenness (realized-low k g)
+
+  pub map-small : (k j : ℕ) (m lent : List ℕ) (r : MapAnswer) → Gives bytes (AskMap k j m lent) (map-says r) after → SmallMap r
+  unfolding map-says
+  map-small k j m lent MapAnswer.Yes g = tt
+  map-small k j m lent (MapAnswer.Broken rule) g = low-broken (small-answer LowMapping (map-low k j m lent g))
+  map-small k j m lent (MapAnswer.Refused r) g = small-refused LowMapping (map-low k j m lent g)
+
+  pub list-small : (k j : ℕ) (lent : List ℕ) (r : ListAnswer) → Gives bytes (AskList k j lent) (list-says r) after → SmallList r
+  unfolding list-says
+  list-small k j lent (ListAnswer.Maps count) g = small-answer (λ c. c ≤ 46656) (list-low k j lent g)
+  list-small k j lent (ListAnswer.Refused r) g = small-refused (λ c. c ≤ 46656) (list-low k j lent g)
+
+-- The sheet's refusal, question by question
+
+pub within-refused : {bytes t inverses : List ℕ} {a : Accepted} (x y : ℕ) (S : List ℕ) (r : Refusal)
+    → AcceptedAs bytes t inverses a → a ≡ Accepted.Refused r
     → Gives bytes (AskWithin x y S) (refused (refusal-of r)) S
 unfolding AskWithin
 within-refused x y S r h e = refuses _ _ _ S r h e
 
-pub within-small : (x y : ℕ) (S after : List ℕ) (s : Sheet) (r : YesNo) → AskWithin x y S (Verdict.accepted s) (yes-no-says r) after → SmallYesNo r
-unfolding AskWithin yes-no-says
-within-small x y S after s YesNo.Yes q = tt
-within-small x y S after s YesNo.No q = tt
-within-small x y S after s (YesNo.Refused r) q = asked-small r q refl
-
--- derivable
-pub derivable-refused : {bytes t inverses : List ℕ} {a : Accepted} (k : ℕ) (n : Node) (x : ℕ) (r : Refusal) → AcceptedAs bytes t inverses a
-    → a ≡ Accepted.Refused r
+pub derivable-refused : {bytes t inverses : List ℕ} {a : Accepted} (k : ℕ) (n : Node) (x : ℕ) (r : Refusal)
+    → AcceptedAs bytes t inverses a → a ≡ Accepted.Refused r
     → Gives bytes (AskDerivable k n x) (refused (refusal-of r)) []
 unfolding AskDerivable
 derivable-refused k n x r h e = refuses _ _ _ [] r h e
 
-pub derivable-small : (k : ℕ) (n : Node) (x : ℕ) (after : List ℕ) (s : Sheet) (r : YesNo) → AskDerivable k n x (Verdict.accepted s) (yes-no-says r) after
-    → SmallYesNo r
-unfolding AskDerivable yes-no-says
-derivable-small k n x after s YesNo.Yes q = tt
-derivable-small k n x after s YesNo.No q = tt
-derivable-small k n x after s (YesNo.Refused r) q = asked-small r q refl
-
--- reach
-pub reach-refused : {bytes t inverses : List ℕ} {a : Accepted} (k : ℕ) (n : Node) (r : Refusal) → AcceptedAs bytes t inverses a
-    → a ≡ Accepted.Refused r
+pub reach-refused : {bytes t inverses : List ℕ} {a : Accepted} (k : ℕ) (n : Node) (r : Refusal)
+    → AcceptedAs bytes t inverses a → a ≡ Accepted.Refused r
     → Gives bytes (AskReach k n) (refused (refusal-of r)) []
 unfolding AskReach
 reach-refused k n r h e = refuses _ _ _ [] r h e
 
-rows-count : (t : List ℕ) (D : Drawing) → sheet-in t .rows ≡ D .rows → byte t 600 ≡ length (D .rows)
-unfolding sheet-in rows-of
-rows-count t D e = back (length-upto (byte t 600) (row-at t)) ∙ ap length e
-
--- a rising list of numbers from m on and below n
-rising-low : (l : List ℕ) (m n : ℕ) → Rising (λ i j. i < j) l → ((i : ℕ) → List·Memᴰ i l → m ≤ i) → ((i : ℕ) → List·Memᴰ i l → i < n) → m ≤ n
-    → length l + m ≤ n
-rising-low [] m n r f g h = omega arith
-rising-low (x ∷ l) m n (more s r) f g h =
-    let a : x < n = g x (List·Memᴰ·head refl) in
-    let b : m ≤ x = f x (List·Memᴰ·head refl) in
-    let c : length l + suc x ≤ n = rising-low l (suc x) n r (λ i k. omega (arith, s i k)) (λ i k. g i (List·Memᴰ·tail k)) (omega arith) in
-    omega arith
-
-pub reach-small : (k : ℕ) (n : Node) (after : List ℕ) {t : List ℕ} → Filled t → (r : ReachAnswer) → AskReach k n (Verdict.accepted (sheet-in t)) (reach-says r) after
-    → SmallReach r
-unfolding AskReach reach-says
-reach-small k n after f (ReachAnswer.Refused r) q = asked-small r q refl
-reach-small k n after {t} f (ReachAnswer.Reach count) (said {x = D} h room p) =
-    let r = p .reach in
-    let e : byte t 600 ≡ length (D .rows) = rows-count t D (h .drawing .rows) in
-    omega (arith, rising-low (r .terms) 0 (length (D .rows)) (r .rising) (λ i m. omega arith) (λ i m. r .members i .0 m .0) (omega arith), r .size, f .terms)
-
--- realized
-pub realized-refused : {bytes t inverses : List ℕ} {a : Accepted} (k : ℕ) (r : Refusal) → AcceptedAs bytes t inverses a → a ≡ Accepted.Refused r
+pub realized-refused : {bytes t inverses : List ℕ} {a : Accepted} (k : ℕ) (r : Refusal)
+    → AcceptedAs bytes t inverses a → a ≡ Accepted.Refused r
     → Gives bytes (AskRealized k) (refused (refusal-of r)) []
 unfolding AskRealized
 realized-refused k r h e = refuses _ _ _ [] r h e
 
-pub realized-small : (k : ℕ) (after : List ℕ) (s : Sheet) (r : RealizedAnswer) → AskRealized k (Verdict.accepted s) (realized-says r) after
-    → SmallRealized r
-unfolding AskRealized realized-says
-realized-small k after s RealizedAnswer.Realized q = tt
-realized-small k after s (RealizedAnswer.Open n) q = tt
-realized-small k after s (RealizedAnswer.Refused r) q = asked-small r q refl
-
--- map
-pub map-refused : {bytes t inverses : List ℕ} {a : Accepted} (k j : ℕ) (m lent : List ℕ) (r : Refusal) → AcceptedAs bytes t inverses a
-    → a ≡ Accepted.Refused r
+pub map-refused : {bytes t inverses : List ℕ} {a : Accepted} (k j : ℕ) (m lent : List ℕ) (r : Refusal)
+    → AcceptedAs bytes t inverses a → a ≡ Accepted.Refused r
     → Gives bytes (AskMap k j m lent) (refused (refusal-of r)) lent
 unfolding AskMap
 map-refused k j m lent r h e = refuses _ _ _ lent r h e
 
-pub map-small : (k j : ℕ) (m lent after : List ℕ) (s : Sheet) (r : MapAnswer) → AskMap k j m lent (Verdict.accepted s) (map-says r) after → SmallMap r
-unfolding AskMap map-says
-map-small k j m lent after s MapAnswer.Yes q = tt
-map-small k j m lent after s (MapAnswer.Broken rule) q = tt
-map-small k j m lent after s (MapAnswer.Refused r) q = asked-small r q refl
-
--- list
-pub list-refused : {bytes t inverses : List ℕ} {a : Accepted} (k j : ℕ) (lent : List ℕ) (r : Refusal) → AcceptedAs bytes t inverses a
-    → a ≡ Accepted.Refused r
+pub list-refused : {bytes t inverses : List ℕ} {a : Accepted} (k j : ℕ) (lent : List ℕ) (r : Refusal)
+    → AcceptedAs bytes t inverses a → a ≡ Accepted.Refused r
     → Gives bytes (AskList k j lent) (refused (refusal-of r)) lent
 unfolding AskList
 list-refused k j lent r h e = refuses _ _ _ lent r h e
-
-pub list-small : (k j : ℕ) (lent after : List ℕ) (s : Sheet) (r : ListAnswer) → AskList k j lent (Verdict.accepted s) (list-says r) after → FewMaps r
-    → SmallList r
-unfolding AskList list-says
-list-small k j lent after s (ListAnswer.Maps count) q few = few
-list-small k j lent after s (ListAnswer.Refused r) q few = asked-small r q refl

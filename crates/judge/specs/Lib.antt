@@ -1,2 +1,3 @@
--- How large an answer's numbers are; what the answers say is in `model`.
+-- How large an answer's numbers are, and that there is no second answer; what the answers say is in `model`.
 pub mod Small
+pub mod OneAnswer

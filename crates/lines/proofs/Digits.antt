@@ -8,7 +8,8 @@ use native.Mathlib.Omega.{arith}
 use lib.Dec.{ltb}
 use lib.ListN.{length, length-append}
 use borrow.Author.Tests.{lt-ltb, le-ltb, ltb-true, ltb-false}
-use Rattle.model.specs.Lines.{decimal, decimal-law}
+use Rattle.model.specs.Lines.{decimal}
+use Rattle.model.specs.LinesLaws.{decimal-law}
 
 -- a number below ten is a digit; any other is a number and a digit
 pub one-digit : (n : ℕ) → n < 10 → decimal n ≡ (48 + n) ∷ []

@@ -1,4 +1,4 @@
--- The verdict on some bytes: "Any bytes may be put to it as a sheet". It is what every question starts from.
+-- The verdict on some bytes, whichever they are. It is what every question starts from.
 use mathlib.Core.List.{List}
 use Prim.Native.Nat.{ℕ}
 use Rattle.model.specs.Sheet.{Sheet, Refusal, Verdict, refused}

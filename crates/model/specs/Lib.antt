@@ -25,5 +25,9 @@ pub mod Lines
 pub mod Report
 -- Laws that hold the definitions in their place.
 pub mod Laws
-pub mod SkeletonLaws
+pub mod TableLaws
 pub mod ReadingLaws
+pub mod SkeletonLaws
+pub mod RepeatLaws
+pub mod SaysLaws
+pub mod LinesLaws

@@ -1,12 +1,9 @@
 -- What the bench program writes, as bytes. "It writes exactly: .. Each map is a line, its numbers parted by one space;
 -- no maps line for one skeleton; `maps 0 to 1 refused 16` for room; a bad sheet gives only `sheet refused N place P
 -- skeleton K`."
-use mathlib.Core.Path.{_≡_, refl}
-use mathlib.Core.Bool.{Bool, true, false, cond}
+use mathlib.Core.Bool.{cond}
 use mathlib.Core.List.{List, [], _∷_, _++_}
-use Prim.Native.Nat.{ℕ, zero, suc, _+_, _/_, _%_, _≤_, _<_}
-use native.Mathlib.Omega.{arith}
-use borrow.Author.Tests.{ltb-false}
+use Prim.Native.Nat.{ℕ, zero, suc, _+_, _/_, _%_}
 use Prim.Native.Char.{code}
 use Prim.Native.String.{String}
 use Prim.Native.String as String
@@ -18,37 +15,15 @@ unfoldable pub ascii : String → List ℕ
 ascii String.[] = []
 ascii (String._∷_ c s) = code c ∷ ascii s
 
--- a number in decimal, by its last n digits; n is never too small, as the law of `decimal` shows
-unfoldable digits : ℕ → ℕ → List ℕ
+-- the last n digits of a number, or fewer where it has fewer
+unfoldable pub digits : ℕ → ℕ → List ℕ
 digits zero x = []
 digits (suc n) x = cond (ltb x 10) ((48 + x) ∷ []) (digits n (x / 10) ++ ((48 + x % 10) ∷ []))
 
+-- in decimal: a number x has at most x + 1 digits
 unfoldable pub decimal : ℕ → List ℕ
 unfolding digits
 decimal x = digits (suc x) x
-
--- the law of decimal: digit by digit
-enough : (n m x : ℕ) → x < n → x < m → digits n x ≡ digits m x
-unfolding digits
-enough zero m x h k = absurd (omega arith)
-enough (suc n) zero x h k = absurd (omega arith)
-enough (suc n) (suc m) x h k = go (ltb x 10) refl (λ l. enough n m (x / 10) (omega arith) (omega arith))
-  where
-    go : (b : Bool) → ltb x 10 ≡ b → (10 ≤ x → digits n (x / 10) ≡ digits m (x / 10))
-        → cond b ((48 + x) ∷ []) (digits n (x / 10) ++ ((48 + x % 10) ∷ [])) ≡ cond b ((48 + x) ∷ []) (digits m (x / 10) ++ ((48 + x % 10) ∷ []))
-    go true e f = refl
-    go false e f = rw (f (ltb-false x 10 e))
-
-pub decimal-law : (x : ℕ) → decimal x ≡ cond (ltb x 10) ((48 + x) ∷ []) (decimal (x / 10) ++ ((48 + x % 10) ∷ []))
-unfolding decimal digits
-decimal-law x = go (ltb x 10) refl
-  where
-    go : (b : Bool) → ltb x 10 ≡ b
-        → cond b ((48 + x) ∷ []) (digits x (x / 10) ++ ((48 + x % 10) ∷ [])) ≡ cond b ((48 + x) ∷ []) (digits (suc (x / 10)) (x / 10) ++ ((48 + x % 10) ∷ []))
-    go true e = refl
-    go false e =
-        let big : 10 ≤ x = ltb-false x 10 e in
-        rw (enough x (suc (x / 10)) (x / 10) (omega arith) (omega arith))
 
 -- "sheet good terms 9 skeletons 2"; "sheet refused N place P skeleton K"
 unfoldable pub sheet-line : Answer Counts → List ℕ
@@ -78,8 +53,3 @@ unfolding ascii decimal
 map-line [] = ascii "\n"
 map-line (x ∷ []) = decimal x ++ ascii "\n"
 map-line (x ∷ y ∷ l) = decimal x ++ ascii " " ++ map-line (y ∷ l)
-
--- the sheet line of the paper's example, spelled out
-example-line : sheet-line (answered (record { terms = 9; skeletons = 2 })) ≡ ascii "sheet good terms 9 skeletons 2\n"
-unfolding sheet-line
-example-line = refl

@@ -1,4 +1,5 @@
--- Strictly rising lists, and "dictionary order": the first source strand varies slowest.
+-- Strictly rising lists, and the order of the list of maps, which case P10 shows (00, 01, 10, 11): the first source strand
+-- varies slowest.
 use mathlib.Core.List.{List, [], _∷_, List·Memᴰ}
 use Prim.Native.Nat.{ℕ, _<_}
 

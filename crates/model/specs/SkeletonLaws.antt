@@ -1,27 +1,19 @@
--- Laws of skeletons and strand maps: repeated records change nothing; two variables, and two strands, may share an image.
+-- Laws of skeletons and strand maps: what is withheld, what a map keeps; two variables, and two strands, may share an image.
 use mathlib.Core.Path.{_≡_, refl}
 use mathlib.Core.Bool.{false}
-use mathlib.Core.Logic.{_↔_, ⊎-elim, ⊎-map}
-use mathlib.Core.List.{List, [], _∷_, _++_, List·Memᴰ, List·Memᴰ·not-nil, List·Memᴰ·cases-cons, List·Memᴰ·append-cases, Memᴰ·append-left}
+use mathlib.Core.Logic.{inl, inr}
+use mathlib.Core.List.{List, [], _∷_, List·Memᴰ, List·Memᴰ·not-nil}
 use mathlib.Core.Option.{none, some}
 use Prim.Native.Nat.{ℕ, zero, suc, _<_}
 use native.Mathlib.Omega.{arith}
-use lib.ListN.{getD, getElem?}
+use lib.ListN.{length, getD, getElem?}
 use Rattle.model.specs.Term.{Atom, text, skey, akey, Term, mesg, atom}
 use Rattle.model.specs.Subst.{Subst, apply, on-atom}
 use Rattle.model.specs.Derive.{Derivable, given, an-atom}
-use Rattle.model.specs.Skeleton.{Event, send, message, Node, Skeleton, height, At}
-use Rattle.model.specs.Events.{Before, next, listed, chain, Origin, SentBefore, Withheld, DerivableBefore}
-use Rattle.model.specs.Maps.{Rule2, Rule3, Rule4, Rule5, Rule6, SameDirection, both-send, IsStrandMap}
+use Rattle.model.specs.Skeleton.{Event, send, recv, message, Node, Skeleton, height, At}
+use Rattle.model.specs.Events.{Before, next, listed, chain, Origin, Withheld}
+use Rattle.model.specs.Maps.{move, SameDirection, both-send, both-receive, Rule2, Rule3, Rule4, Rule5, Rule6, to, IsStrandMap}
 use Rattle.model.specs.Laws.{least, derivable-closed}
-
--- More order and fewer assumptions derive more
-
-pub record Eased (K L : Skeleton Term) : Type 0 where
-  pub same-strands : K .strands ≡ L .strands
-  pub more-order : (p : Node × Node) → List·Memᴰ p (K .order) → List·Memᴰ p (L .order)
-  pub fewer-non : (t : Term) → List·Memᴰ t (L .non) → List·Memᴰ t (K .non)
-  pub fewer-uniq : (t : Term) → List·Memᴰ t (L .uniq) → List·Memᴰ t (K .uniq)
 
 -- more sent and less withheld derives more
 module _ (sent sent′ : Term → Type 0) (withheld withheld′ : Atom → Type 0) (more : (t : Term) → sent t → sent′ t)
@@ -43,86 +35,42 @@ module _ (sent sent′ : Term → Type 0) (withheld withheld′ : Atom → Type 
         hashes = c .hashes;
       })
 
-module _ (K L : Skeleton Term) (eased : Eased K L) where
-  at-eased : {n : Node} {e : Event Term} → At K n e → At L n e
-  at-eased h = record { is = rw (← eased .same-strands) (h .is) }
+-- "Withheld: all NO atoms, and UO atoms that originate."
 
-  at-back : {n : Node} {e : Event Term} → At L n e → At K n e
-  at-back h = record { is = rw (eased .same-strands) (h .is) }
-
-  before-eased : {m n : Node} → Before K m n → Before L m n
-  before-eased (next h) = next (rw (eased .same-strands) at h)
-  before-eased (listed m) = listed (eased .more-order _ m)
-  before-eased (chain p q) = chain (before-eased p) (before-eased q)
-
-  origin-back : {t : Term} {n : Node} → Origin L t n → Origin K t n
-  origin-back o = record { said = o .said; at = at-back (o .at); carries = o .carries; first = λ p e l h. o .first p e l (at-eased h) }
-
-  withheld-back : (a : Atom) → Withheld L a → Withheld K a
+module _ (K : Skeleton Term) (a : Atom) where
+  pub non-withheld : List·Memᴰ (atom a) (K .non) → Withheld K a
   unfolding Withheld
-  withheld-back a =
-      ⊎-map (eased .fewer-non (atom a)) (λ g. record { listed = eased .fewer-uniq (atom a) (g .listed); node = g .node; origin = origin-back (g .origin) })
+  non-withheld m = inl m
 
-  pub derivable-stays : (n : Node) (t : Term) → DerivableBefore K n t → DerivableBefore L n t
-  unfolding DerivableBefore
-  derivable-stays n t =
-      derivable-mono (SentBefore K n) (SentBefore L n) (Withheld K) (Withheld L)
-      (λ u s. record { sender = s .sender; at = at-eased (s .at); before = before-eased (s .before) }) withheld-back
+  pub uniq-withheld : List·Memᴰ (atom a) (K .uniq) → (n : Node) → Origin K (atom a) n → Withheld K a
+  unfolding Withheld
+  uniq-withheld m n o = inr (record { listed = m; node = n; origin = o })
 
--- "Repeated OR, NO and UO records are harmless."
-
-module _ {A : Type 0} (l : List A) {x : A} (again : List·Memᴰ x l) where
-  pub repeat-member : (y : A) → List·Memᴰ y (l ++ (x ∷ [])) → List·Memᴰ y l
-  repeat-member y m =
-      ⊎-elim (λ k. k) (λ k. ⊎-elim (λ e. rw e again) (λ q. absurd (List·Memᴰ·not-nil q)) (List·Memᴰ·cases-cons k)) (List·Memᴰ·append-cases l m)
-
-  pub member-repeat : (y : A) → List·Memᴰ y l → List·Memᴰ y (l ++ (x ∷ []))
-  member-repeat y m = Memᴰ·append-left (x ∷ []) m
-
-pub record Repeats (K L : Skeleton Term) : Type 0 where
-  pub same-strands : K .strands ≡ L .strands
-  pub pair : Node × Node
-  pub pair-again : List·Memᴰ pair (K .order)
-  pub order : L .order ≡ K .order ++ (pair ∷ [])
-  pub atom-non : Term
-  pub non-again : List·Memᴰ atom-non (K .non)
-  pub non : L .non ≡ K .non ++ (atom-non ∷ [])
-  pub atom-uniq : Term
-  pub uniq-again : List·Memᴰ atom-uniq (K .uniq)
-  pub uniq : L .uniq ≡ K .uniq ++ (atom-uniq ∷ [])
-
-pub repeats-harmless : (K L : Skeleton Term) → Repeats K L → (n : Node) (t : Term) → DerivableBefore K n t ↔ DerivableBefore L n t
-repeats-harmless K L r n t = (derivable-stays K L there n t, derivable-stays L K back-again n t)
-  where
-    there : Eased K L
-    there =
-        record {
-          same-strands = r .same-strands;
-          more-order = λ p m. rw (r .order) (member-repeat (K .order) (r .pair-again) p m);
-          fewer-non = λ u m. repeat-member (K .non) (r .non-again) u (rw (r .non) at m);
-          fewer-uniq = λ u m. repeat-member (K .uniq) (r .uniq-again) u (rw (r .uniq) at m);
-        }
-
-    back-again : Eased L K
-    back-again =
-        record {
-          same-strands = rw (r .same-strands);
-          more-order = λ p m. repeat-member (K .order) (r .pair-again) p (rw (r .order) at m);
-          fewer-non = λ u m. rw (r .non) (member-repeat (K .non) (r .non-again) u m);
-          fewer-uniq = λ u m. rw (r .uniq) (member-repeat (K .uniq) (r .uniq-again) u m);
-        }
+  pub no-other-withheld : ¬ List·Memᴰ (atom a) (K .non) → ((n : Node) → List·Memᴰ (atom a) (K .uniq) → ¬ Origin K (atom a) n)
+      → ¬ Withheld K a
+  unfolding Withheld
+  no-other-withheld h g (inl m) = h m
+  no-other-withheld h g (inr o) = g (o .node) (o .listed) (o .origin)
 
 -- "Letting two variables never share an image" is a slip: two strands that send two texts map onto one that sends a third
 
 pub two-texts : Skeleton Term
-two-texts = record { strands = (send (atom (text 0)) ∷ []) ∷ (send (atom (text 1)) ∷ []) ∷ []; order = []; non = []; uniq = [] }
+two-texts =
+    record { strands = (send (atom (text 0)) ∷ []) ∷ (send (atom (text 1)) ∷ []) ∷ []; order = []; non = []; uniq = [] }
 
 pub one-text : Skeleton Term
 one-text = record { strands = (send (atom (text 2)) ∷ []) ∷ []; order = []; non = []; uniq = [] }
 
 all-to-one : Subst
 all-to-one =
-    record { to-mesg = mesg; to-text = λ n. 2; to-datum = λ n. n; to-name = λ n. n; to-sym = skey; to-asym = λ n. (false, akey n) }
+    record {
+      to-mesg = mesg;
+      to-text = λ n. 2;
+      to-datum = λ n. n;
+      to-name = λ n. n;
+      to-sym = skey;
+      to-asym = λ n. (false, akey n);
+    }
 
 -- what is at a node of the two strands
 data OneOfTwo : Node → Event Term → Type 0 where
@@ -136,7 +84,8 @@ one-of-two : (n : Node) (e : Event Term) → At two-texts n e → OneOfTwo n e
 unfolding two-texts
 one-of-two n e a = go (n .strand) (n .position) e (a .is)
   where
-    go : (s p : ℕ) (e : Event Term) → getElem? (getD (two-texts .strands) s []) p ≡ some e → OneOfTwo (record { strand = s; position = p }) e
+    go : (s p : ℕ) (e : Event Term) → getElem? (getD (two-texts .strands) s []) p ≡ some e
+        → OneOfTwo (record { strand = s; position = p }) e
     go zero zero e h = let z : send (atom (text 0)) ≡ e = cc in rw z at on-first
     go zero (suc p) e h = absurd (no-event h)
     go (suc zero) zero e h = let z : send (atom (text 1)) ≡ e = cc in rw z at on-second
@@ -180,7 +129,7 @@ images-shared =
     inside (suc (suc s)) h = absurd (omega arith)
 
     directions : (n : Node) (e : Event Term) → OneOfTwo n e
-        → (d : Event Term) × At one-text (record { strand = getD (0 ∷ 0 ∷ []) (n .strand) 0; position = n .position }) d × SameDirection e d
+        → (d : Event Term) × At one-text (move (λ s. getD (0 ∷ 0 ∷ []) s 0) n) d × SameDirection e d
     directions n e on-first = (send (atom (text 2)), at-one, both-send)
     directions n e on-second = (send (atom (text 2)), at-one, both-send)
 
@@ -189,3 +138,52 @@ images-shared =
         → apply all-to-one (message e) ≡ message d
     messages n e d on-first h = let z : send (atom (text 2)) ≡ d = cc in rw (← z) refl
     messages n e d on-second h = let z : send (atom (text 2)) ≡ d = cc in rw (← z) refl
+
+-- What a strand map keeps, rule by rule
+
+module _ (A B : Skeleton Term) (bytes : List ℕ) (m : IsStrandMap A B bytes) where
+  abbrev goes : Node → Node
+  goes n = move (to A B bytes) n
+
+  -- "(1) one byte per source strand, each a target strand"
+  pub map-strands : (length bytes ≡ length (A .strands)) × ((s : ℕ) → s < length bytes → getD bytes s 0 < length (B .strands))
+  map-strands = let h = m .kept .strands (omega arith) in (h .full, h .inside)
+
+  -- "(2) target height at least the source's, equal directions at equal positions"
+  pub map-sends : (n : Node) (t : Term) → At A n (send t) → (u : Term) × At B (goes n) (send u)
+  unfolding Rule2
+  map-sends n t a = go (m .kept .directions (omega arith) n (send t) a)
+    where
+      go : (d : Event Term) × At B (goes n) d × SameDirection (send t) d → (u : Term) × At B (goes n) (send u)
+      go (send u, b, both-send) = (u, b)
+
+  pub map-receptions : (n : Node) (t : Term) → At A n (recv t) → (u : Term) × At B (goes n) (recv u)
+  unfolding Rule2
+  map-receptions n t a = go (m .kept .directions (omega arith) n (recv t) a)
+    where
+      go : (d : Event Term) × At B (goes n) d × SameDirection (recv t) d → (u : Term) × At B (goes n) (recv u)
+      go (recv u, b, both-receive) = (u, b)
+
+  -- "(3) some sort-keeping substitution takes each source message to the message at the mapped node"
+  pub map-messages : (n : Node) (e d : Event Term) → At A n e → At B (goes n) d → apply (m .σ) (message e) ≡ message d
+  unfolding Rule3
+  map-messages = m .kept .messages (omega arith)
+
+  -- "(4) precedence is kept"
+  pub map-order : (n o : Node) → Before A n o → Before B (goes n) (goes o)
+  unfolding Rule4
+  map-order = m .kept .order (omega arith)
+
+  -- "(5) images of NO atoms are NO atoms"
+  pub map-nons : (t : Term) → List·Memᴰ t (A .non) → List·Memᴰ (apply (m .σ) t) (B .non)
+  unfolding Rule5
+  map-nons = m .kept .non (omega arith)
+
+  -- "(6) images of UO atoms are UO atoms, with origin mapped to origin"
+  pub map-uniqs : (t : Term) → List·Memᴰ t (A .uniq) → List·Memᴰ (apply (m .σ) t) (B .uniq)
+  unfolding Rule6
+  map-uniqs t u = m .kept .uniq (omega arith) t u .0
+
+  pub map-origins : (t : Term) → List·Memᴰ t (A .uniq) → (n : Node) → Origin A t n → Origin B (apply (m .σ) t) (goes n)
+  unfolding Rule6
+  map-origins t u = m .kept .uniq (omega arith) t u .1

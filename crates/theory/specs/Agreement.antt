@@ -27,7 +27,7 @@ pub record Alike (s s′ : Sheet) : Type 0 where
 abbrev about : ℕ
 about = 0
 
-alike-back : {s s′ : Sheet} → Alike s s′ → Alike s′ s
+pub alike-back : {s s′ : Sheet} → Alike s s′ → Alike s′ s
 alike-back h = record { rows = back (h .rows); skeleton = back (h .skeleton) }
 
 skeleton-there : {s s′ : Sheet} → Alike s s′ → {D : Drawing} → HasSkeleton about s D → HasSkeleton about s′ D

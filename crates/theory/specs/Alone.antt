@@ -70,5 +70,5 @@ alone-accepted {s} (judged {s = t} h a) =
     let b : Accepting s (accepted s) = rw e at a in
     judged (within-read (alone s) (within-alone s w)) (accepting-alone b)
 
-pub alone-agrees : {bytes : List ℕ} {s : Sheet} → HasVerdict bytes (accepted s) → SameAnswers s (alone s)
+pub alone-agrees : {bytes : List ℕ} {s : Sheet} → HasVerdict bytes (accepted s) → SameAnswers bytes (encoding (alone s))
 alone-agrees {bytes} {s} h = agreement bytes (encoding (alone s)) s (alone s) h (alone-accepted h) (alike-alone s)

@@ -1,4 +1,5 @@
--- "The longest good sheet has 2,581 bytes": the place of a refusal is at most that.
+-- "The longest good sheet has 2,581 bytes": a good sheet has at most that many, and the place of a refusal is at most that.
+-- `cases/Limits: longest-good` shows one of that length.
 use mathlib.Core.Path.{_≡_, refl, ap, _∙_}
 use mathlib.Core.List.{List, [], _∷_, _++_, map, List·Memᴰ, List·Memᴰ·head, List·Memᴰ·tail}
 use mathlib.Core.Option.{Option, none, some}
@@ -8,8 +9,8 @@ use lib.ListN.{length, length-append}
 use Rattle.model.specs.Lists.{reversed}
 use Rattle.model.specs.Table.{Row}
 use Rattle.model.specs.Skeleton.{Skeleton}
-use Rattle.model.specs.Sheet.{Sheet, Refusal, Verdict, refused, Drawing, HasSkeleton}
-use Rattle.model.specs.Reading.{Mark, BS, TM, SK, ST, OR, NO, UO, EN, Record, term, strand, order, non, uniq, size, State, start, after, Reading, faulty as faulty-reading, fault, Read, at-end, beyond, at-fault, next}
+use Rattle.model.specs.Sheet.{Sheet, Refusal, Verdict, refused, accepted, Drawing, HasSkeleton}
+use Rattle.model.specs.Reading.{Mark, BS, TM, SK, ST, OR, NO, UO, EN, Record, end, term, strand, order, non, uniq, size, State, start, after, Reading, faulty as faulty-reading, fault, Read, at-end, beyond, at-fault, next}
 use Rattle.model.specs.Accepting.{Fault, a-cycle, missing, carried, not-one, early, Accepting, lacks, faulty}
 use Rattle.model.specs.Accepting as Acc
 use Rattle.model.specs.Judging.{HasVerdict, unread, judged}
@@ -18,7 +19,7 @@ use Rattle.theory.specs.Places.{in-list, in-reversed}
 use Rattle.theory.specs.Records.{was-read}
 use Rattle.theory.specs.RecordBytes.{encode, length-encode}
 use Rattle.theory.specs.Standing.{Drawn, atom-inside, Kept, kept-after, start-kept}
-use Rattle.theory.specs.Encoding.{skeleton-records, all-skeletons, encode-all, so-far, heading, closing, one-more, encode-one, encode-append, length-reversed, WithinLimits, read-encoded}
+use Rattle.theory.specs.Encoding.{skeleton-records, all-skeletons, records-of, encode-all, encoding, so-far, heading, closing, one-more, encode-one, encode-append, length-reversed, WithinLimits, Encoded, read-encoded}
 
 -- the bytes of some records
 abbrev bytes : List Record → ℕ
@@ -167,3 +168,21 @@ verdict-low (judged h a) r e = omega (arith, accepting-place (read-encoded h .wi
 
 pub verdict-places : {bytes : List ℕ} {r : Refusal} → HasVerdict bytes (refused r) → r .place ≤ 2581
 verdict-places {r} h = verdict-low h r refl
+
+-- NO GOOD SHEET IS LONGER
+
+sheet-bytes : (s : Sheet) → WithinLimits s → bytes (records-of s) ≤ 2581
+unfolding records-of encode-all encode size
+sheet-bytes s w =
+    let R : List Record = map term (s .rows) in
+    let S : List Record = all-skeletons (s .skeletons) in
+    let r = bytes-each 5 term (s .rows) (λ x m. omega arith) in
+    let d = skeletons-bytes (s .rows) (s .skeletons) (w .drawings) in
+    omega (arith, w .few, w .table .few, bytes-append R (S ++ (end ∷ [])), bytes-append S (end ∷ []))
+
+read-length : {bytes : List ℕ} {s : Sheet} → Encoded bytes s → length bytes ≤ 2581
+unfolding encoding
+read-length {s} e = rw (e .is) (sheet-bytes s (e .within))
+
+pub good-length : {bytes : List ℕ} {s : Sheet} → HasVerdict bytes (accepted s) → length bytes ≤ 2581
+good-length (judged h a) = read-length (read-encoded h)

@@ -15,6 +15,7 @@ pub mod Substituting
 pub mod GoodTable
 pub mod Numbers
 pub mod OnSheet
+pub mod Atoms
 -- The least set that rules close, decided; and what is decided by it.
 pub mod Rules
 pub mod RowRules
@@ -48,7 +49,7 @@ pub mod Readable
 pub mod Continued
 pub mod Judgement
 pub mod Verdicts
--- The questions: exactly one answer to each, and the agreement.
+-- The questions: exactly one answer to each, the agreement, and how large the numbers of an answer are.
 pub mod NoSecond
 pub mod Answering
 pub mod Listing
@@ -58,3 +59,4 @@ pub mod Asking
 pub mod Agreement
 pub mod Pinned
 pub mod Alone
+pub mod Sizes

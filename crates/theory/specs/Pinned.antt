@@ -1,5 +1,6 @@
 -- Exactly one answer and one content of lent memory to each question, from the bytes; and the agreement.
 use mathlib.Core.Path.{_≡_, refl}
+use mathlib.Core.Logic.{_↔_}
 use mathlib.Core.List.{List, []}
 use Prim.Native.Nat.{ℕ}
 use Rattle.model.specs.Skeleton.{Node}
@@ -9,7 +10,7 @@ use Rattle.model.specs.Answers.{Gives, Answer, Asked, bad-sheet, Always, TheShe
 use Rattle.theory.specs.Judgement.{Sound}
 use Rattle.theory.specs.Verdicts.{TheVerdict, verdict-of, verdict-one, verdict-sound}
 use Rattle.theory.specs.NoSecond.{Same, sheet-one, within-one, derivable-one, reach-answer-one, realized-one, map-one, list-one}
-use Rattle.theory.specs.Agreement.{Alike, Agree, alike-agree}
+use Rattle.theory.specs.Agreement.{Alike, alike-back, Agree, alike-agree}
 use Rattle.theory.specs.Asking.{Answered, ask-sheet, ask-within, ask-derivable, ask-reach, ask-realized, ask-map, ask-list}
 
 -- there is an answer, and there is no second
@@ -99,29 +100,39 @@ pinned bytes =
 -- THE AGREEMENT, from bytes: "For two accepted sheets with the same TM records and the same skeleton 0, all answers about
 -- skeleton 0 alone agree, whatever skeleton 1 says"
 
-abbrev Alikes : {A : Type 0} → (Verdict → Answer A → List ℕ → Type 0) → Sheet → Sheet → Type 0
-Alikes {A} Question s s′ =
-    (a b : Answer A) (l m : List ℕ) → Question (Verdict.accepted s) a l → Question (Verdict.accepted s′) b m → Same a b l m
+abbrev Agrees : {A : Type 0} → (Verdict → Answer A → List ℕ → Type 0) → List ℕ → List ℕ → Type 0
+Agrees {A} Question bytes bytes′ = (a : Answer A) (l : List ℕ) → Gives bytes Question a l ↔ Gives bytes′ Question a l
 
-pub record SameAnswers (s s′ : Sheet) : Type 0 where
-  pub within : (t t′ : ℕ) (S : List ℕ) → Alikes (AskWithin t t′ S) s s′
-  pub derivable : (n : Node) (t : ℕ) → Alikes (AskDerivable 0 n t) s s′
-  pub reach : (n : Node) → Alikes (AskReach 0 n) s s′
-  pub realized : Alikes (AskRealized 0) s s′
-  pub map : (map lent : List ℕ) → Alikes (AskMap 0 0 map lent) s s′
-  pub list : (lent : List ℕ) → Alikes (AskList 0 0 lent) s s′
+-- the two give the same answer, and leave the same in lent memory: `pinned` says that there is no other
+pub record SameAnswers (bytes bytes′ : List ℕ) : Type 0 where
+  pub within : (t t′ : ℕ) (S : List ℕ) → Agrees (AskWithin t t′ S) bytes bytes′
+  pub derivable : (n : Node) (t : ℕ) → Agrees (AskDerivable 0 n t) bytes bytes′
+  pub reach : (n : Node) → Agrees (AskReach 0 n) bytes bytes′
+  pub realized : Agrees (AskRealized 0) bytes bytes′
+  pub map : (map lent : List ℕ) → Agrees (AskMap 0 0 map lent) bytes bytes′
+  pub list : (lent : List ℕ) → Agrees (AskList 0 0 lent) bytes bytes′
+
+gives-along : {bytes bytes′ : List ℕ} {s s′ : Sheet} → HasVerdict bytes (Verdict.accepted s)
+    → HasVerdict bytes′ (Verdict.accepted s′)
+    → {A : Type 0} (Question : Verdict → Answer A → List ℕ → Type 0) (a : Answer A) (l : List ℕ)
+    → (Question (Verdict.accepted s) a l → Question (Verdict.accepted s′) a l)
+    → Gives bytes Question a l
+    → Gives bytes′ Question a l
+gives-along {s} {s′} h h′ Question a l f g =
+    let e : g .verdict ≡ Verdict.accepted s = verdict-one (g .judged) h in
+    record { verdict = Verdict.accepted s′; judged = h′; is = f (rw e at (g .is)) }
 
 pub agreement : (bytes bytes′ : List ℕ) (s s′ : Sheet) → HasVerdict bytes (Verdict.accepted s)
     → HasVerdict bytes′ (Verdict.accepted s′) → Alike s s′
-    → SameAnswers s s′
+    → SameAnswers bytes bytes′
 agreement bytes bytes′ s s′ h h′ e =
-    let g : Agree s s′ = alike-agree s s′ e in
-    let sound : Sound s′ = verdict-sound h′ in
+    let f : Agree s s′ = alike-agree s s′ e in
+    let g : Agree s′ s = alike-agree s′ s (alike-back e) in
     record {
-      within = λ t t′ S a b l m p q. one-each .within t t′ S s′ sound a b l m (g .within t t′ S a l p) q;
-      derivable = λ n t a b l m p q. one-each .derivable 0 n t s′ sound a b l m (g .derivable n t a l p) q;
-      reach = λ n a b l m p q. one-each .reach 0 n s′ sound a b l m (g .reach n a l p) q;
-      realized = λ a b l m p q. one-each .realized 0 s′ sound a b l m (g .realized a l p) q;
-      map = λ map lent a b l m p q. one-each .map 0 0 map lent s′ sound a b l m (g .map map lent a l p) q;
-      list = λ lent a b l m p q. one-each .list 0 0 lent s′ sound a b l m (g .list lent a l p) q;
+      within = λ t t′ S a l. (gives-along h h′ _ a l (f .within t t′ S a l), gives-along h′ h _ a l (g .within t t′ S a l));
+      derivable = λ n t a l. (gives-along h h′ _ a l (f .derivable n t a l), gives-along h′ h _ a l (g .derivable n t a l));
+      reach = λ n a l. (gives-along h h′ _ a l (f .reach n a l), gives-along h′ h _ a l (g .reach n a l));
+      realized = λ a l. (gives-along h h′ _ a l (f .realized a l), gives-along h′ h _ a l (g .realized a l));
+      map = λ map lent a l. (gives-along h h′ _ a l (f .map map lent a l), gives-along h′ h _ a l (g .map map lent a l));
+      list = λ lent a l. (gives-along h h′ _ a l (f .list lent a l), gives-along h′ h _ a l (g .list lent a l));
     }

@@ -1,4 +1,5 @@
--- The inference system of 000, chapter 9, as it is printed there, derives exactly what the least set holds.
+-- The inference system of 000, chapter 9, as it is printed there, derives exactly what the least set holds. 000 leaves the
+-- inverse of a message variable undefined; here it is the variable itself, and no sheet asks for it: `Atoms: key-no-variable`.
 use mathlib.Core.Path.{_≡_, refl, ap, sym as back}
 use mathlib.Core.Bool.{Bool, not}
 use mathlib.Core.Logic.{_↔_, _≢_, ⊎-elim}

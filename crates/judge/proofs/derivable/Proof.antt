@@ -23,10 +23,11 @@ returns-2 c =
     let r = c .before in
     let e = r .before .before .before .before in
     let h = was-good (e .before .before .before .before .before .accept .ensures) (e .enum-told .given .1) in
-    (gives-held _ h (r .derivable .ensures), derivable-small _ _ _ _ _ _ (r .derivable .ensures))
+    let g = gives-held _ h (r .derivable .ensures) in
+    (g, derivable-small _ _ _ _ g)
 
 pub derivable-spec : {M : Type 1} → statement M
 derivable-spec =
     tie.close
-    (tie.spec (search needs) (search needs) (search needs) (search needs) (search needs) (search needs) (search needs) (search needs) (search needs)
-    derivable-requires returns returns-2)
+    (tie.spec (search needs) (search needs) (search needs) (search needs) (search needs) (search needs) (search needs)
+    (search needs) (search needs) derivable-requires returns returns-2)

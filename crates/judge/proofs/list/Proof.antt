@@ -25,10 +25,11 @@ returns-2 c =
     let r = c .before .before .before in
     let e = r .before .before .before .before .before in
     let h = was-good (e .before .before .before .before .before .accept .ensures) (e .enum-told .given .1) in
-    (gives-held _ h (r .list .ensures .0), list-small _ _ _ _ _ _ (r .list .ensures .0) (r .list .ensures .1))
+    let g = gives-held _ h (r .list .ensures .0) in
+    (g, list-small _ _ _ _ g)
 
 pub list-spec : {M : Type 1} → statement M
 list-spec =
     tie.close
-    (tie.spec (search needs) (search needs) (search needs) (search needs) (search needs) (search needs) (search needs) (search needs)
-    (search needs) list-requires returns (search needs) returns-2)
+    (tie.spec (search needs) (search needs) (search needs) (search needs) (search needs) (search needs) (search needs)
+    (search needs) (search needs) list-requires returns (search needs) returns-2)

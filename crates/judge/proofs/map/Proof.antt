@@ -25,10 +25,11 @@ returns-2 c =
     let r = c .before .before .before in
     let e = r .before .before .before .before .before in
     let h = was-good (e .before .before .before .before .before .accept .ensures) (e .enum-told .given .1) in
-    (gives-held _ h (r .map .ensures), map-small _ _ _ _ _ _ _ (r .map .ensures))
+    let g = gives-held _ h (r .map .ensures) in
+    (g, map-small _ _ _ _ _ g)
 
 pub map-spec : {M : Type 1} → statement M
 map-spec =
     tie.close
-    (tie.spec (search needs) (search needs) (search needs) (search needs) (search needs) (search needs) (search needs) (search needs)
-    (search needs) map-requires returns (search needs) returns-2)
+    (tie.spec (search needs) (search needs) (search needs) (search needs) (search needs) (search needs) (search needs)
+    (search needs) (search needs) map-requires returns (search needs) returns-2)

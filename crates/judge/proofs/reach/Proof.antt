@@ -23,10 +23,11 @@ returns-2 c =
     let r = c .before in
     let e = r .before .before .before .before in
     let h = was-good (e .before .before .before .before .before .accept .ensures) (e .enum-told .given .1) in
-    (gives-held _ h (r .reach .ensures), reach-small _ _ _ (h .filled) _ (r .reach .ensures))
+    let g = gives-held _ h (r .reach .ensures) in
+    (g, reach-small _ _ _ g)
 
 pub reach-spec : {M : Type 1} → statement M
 reach-spec =
     tie.close
-    (tie.spec (search needs) (search needs) (search needs) (search needs) (search needs) (search needs) (search needs) (search needs) (search needs)
-    reach-requires returns returns-2)
+    (tie.spec (search needs) (search needs) (search needs) (search needs) (search needs) (search needs) (search needs)
+    (search needs) (search needs) reach-requires returns returns-2)

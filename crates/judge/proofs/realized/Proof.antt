@@ -23,10 +23,11 @@ returns-2 c =
     let r = c .before in
     let e = r .before .before .before .before in
     let h = was-good (e .before .before .before .before .before .accept .ensures) (e .enum-told .given .1) in
-    (gives-held _ h (r .realized .ensures), realized-small _ _ _ _ (r .realized .ensures))
+    let g = gives-held _ h (r .realized .ensures) in
+    (g, realized-small _ _ g)
 
 pub realized-spec : {M : Type 1} → statement M
 realized-spec =
     tie.close
-    (tie.spec (search needs) (search needs) (search needs) (search needs) (search needs) (search needs) (search needs) (search needs) (search needs)
-    realized-requires returns returns-2)
+    (tie.spec (search needs) (search needs) (search needs) (search needs) (search needs) (search needs) (search needs)
+    (search needs) (search needs) realized-requires returns returns-2)

@@ -1,7 +1,8 @@
 -- `judge::sheet` meets its contract. Assumes nothing.
 use borrow.Author.Needs.{needs}
+use Rattle.model.specs.declared.SheetAnswer.{SheetAnswer}
 use Rattle.model.specs.Says.{sheet-says}
-use Rattle.judge.proofs.Answered.{was-good, refused-small, sheet-refused, sheet-counts}
+use Rattle.judge.proofs.Answered.{was-good, refused-small, sheet-refused, sheet-counts, sheet-small}
 use Rattle.judge.proofs.sheet.Statement.{statement}
 use Rattle.judge.proofs.sheet.Tie as tie
 
@@ -17,10 +18,11 @@ unfolding sheet-says
 returns-2 c =
     let e = c .before .before in
     let h = was-good (e .before .before .before .before .before .accept .ensures) (e .enum-told .given .1) in
-    (sheet-counts _ _ h (c .before .wide .ensures .0) (c .wide2 .ensures .0), (c .before .wide .ensures .1, c .wide2 .ensures .1))
+    let g = sheet-counts _ _ h (c .before .wide .ensures .0) (c .wide2 .ensures .0) in
+    (g, sheet-small (SheetAnswer.Good _ _) g)
 
 pub sheet-spec : {M : Type 1} → statement M
 sheet-spec =
     tie.close
-    (tie.spec (search needs) (search needs) (search needs) (search needs) (search needs) (search needs) (search needs) (search needs)
-    (search needs) (search needs) returns returns-2)
+    (tie.spec (search needs) (search needs) (search needs) (search needs) (search needs) (search needs) (search needs)
+    (search needs) (search needs) (search needs) returns returns-2)

@@ -23,7 +23,8 @@ returns-2 : tie.Need-returns-2
 returns-2 c =
     let e = c .before .before in
     let h = was-good (e .before .before .before .before .before .accept .ensures) (e .enum-told .given .1) in
-    (gives-held _ h (c .within .ensures), within-small _ _ _ _ _ _ (c .within .ensures))
+    let g = gives-held _ h (c .within .ensures) in
+    (g, within-small _ _ _ _ g)
 
 pub within-spec : {M : Type 1} → statement M
 within-spec =
