@@ -60,6 +60,10 @@ sheet-counts {t} m n h p q =
       is = said (record { same = refl }) tt (record { terms = p ∙ back (length-upto (byte t 600) (row-at t)); skeletons = q ∙ back (length-upto (byte t 601) (skeleton-in t)); kept = refl });
     }
 
+pub counts-small : {bytes t inverses : List ℕ} {m n : ℕ} → Held bytes t inverses → m ≡ byte t 600 → n ≡ byte t 601
+    → (m ≤ 255) × (n ≤ 255)
+counts-small h p q = (omega (arith, p, h .filled .terms), omega (arith, q, h .filled .skeletons))
+
 -- Questions about an accepted sheet
 
 module _ {A : Type 0} (Question : Verdict → Answer A → List ℕ → Type 0) where

@@ -1,7 +1,7 @@
 -- `judge::sheet` meets its contract. Assumes nothing.
 use borrow.Author.Needs.{needs}
 use Rattle.model.specs.Says.{sheet-says}
-use Rattle.judge.proofs.Answered.{was-good, refused-small, sheet-refused, sheet-counts}
+use Rattle.judge.proofs.Answered.{was-good, refused-small, sheet-refused, sheet-counts, counts-small}
 use Rattle.judge.proofs.sheet.Statement.{statement}
 use Rattle.judge.proofs.sheet.Tie as tie
 
@@ -17,7 +17,9 @@ unfolding sheet-says
 returns-2 c =
     let e = c .before .before in
     let h = was-good (e .before .before .before .before .before .accept .ensures) (e .enum-told .given .1) in
-    (sheet-counts _ _ h (c .before .wide .ensures .0) (c .wide2 .ensures .0), (c .before .wide .ensures .1, c .wide2 .ensures .1))
+    let terms = c .before .wide .ensures in
+    let skeletons = c .wide2 .ensures in
+    (sheet-counts _ _ h terms skeletons, counts-small h terms skeletons)
 
 pub sheet-spec : {M : Type 1} → statement M
 sheet-spec =
