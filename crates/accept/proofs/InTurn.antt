@@ -16,7 +16,7 @@ use Rattle.theory.specs.Standing.{Fair}
 use Rattle.theory.specs.Verdicts.{verdict-sound}
 use Rattle.tables.specs.Layout.{block, skeleton-count}
 use Rattle.theory.specs.Upto.{length-upto}
-use Rattle.tables.specs.Tables.{byte, rows-of, rows-in, skeleton-in, sheet-in, Filled}
+use Rattle.tables.specs.Tables.{byte, rows-of, rows-in, sheet-in, Filled}
 use Rattle.terms.specs.declared.Term.{Term}
 use Rattle.model.specs.Table.{Row}
 use Rattle.keys.specs.declared.Keys.{Keys}
@@ -24,9 +24,10 @@ use Rattle.keys.specs.Inverted.{Inverted, Paired}
 use Rattle.reading.specs.declared.Reading.{Reading}
 use Rattle.reading.specs.Answers.{ReadInto}
 use Rattle.rules.specs.declared.Fault.{Fault}
-use Rattle.rules.specs.Judged.{drawing-at, JudgedAs}
+use Rattle.tables.specs.Drawn.{drawing}
+use Rattle.rules.specs.Judged.{JudgedAs}
 use Rattle.accept.specs.declared.Accepted.{Accepted}
-use Rattle.accept.specs.Held.{AllReady, RightBelow, JudgedAll, SheetAs, Held, AcceptedAs, Stored}
+use Rattle.accept.specs.Held.{AllDrawn, RightBelow, JudgedAll, SheetAs, Held, AcceptedAs, Stored}
 use Rattle.accept.proofs.Lies.{has-skeleton, skeleton-lies}
 
 pub right-none : (t : List ℕ) → RightBelow t 0
@@ -36,10 +37,10 @@ judged-right : {D : Drawing} {f : Fault} → JudgedAs D f → f ≡ Fault.Nothin
 judged-right (JudgedAs.right r) e = r
 judged-right (JudgedAs.faulty x) e = let z : _≡_ {A = ℕ} 0 1 = cc in absurd (omega arith)
 
-pub right-more : (t : List ℕ) (k : ℕ) {f : Fault} → RightBelow t k → JudgedAs (drawing-at t (block k)) f → f ≡ Fault.Nothing → RightBelow t (k + 1)
+pub right-more : (t : List ℕ) (k : ℕ) {f : Fault} → RightBelow t k → JudgedAs (drawing t (block k)) f → f ≡ Fault.Nothing → RightBelow t (k + 1)
 right-more t k r g e = record { at = λ j h. go j h (decLt j k) }
   where
-    go : (j : ℕ) → j < k + 1 → Dec (j < k) → Right (drawing-at t (block j))
+    go : (j : ℕ) → j < k + 1 → Dec (j < k) → Right (drawing t (block j))
     go j h (yes l) = r .at j l
     go j h (no l) = let z : j ≡ k = omega arith in rw z (judged-right g e)
 
@@ -56,7 +57,7 @@ module _ (t : List ℕ) (whole : (i : ℕ) → ¬ Lacking (rows-in t) i) where
   all-right r =
       JudgedAll.right (Accepting.right no-lacking (λ k D h. sheet-right t (byte t skeleton-count) r k D (skeleton-lies t k D h .inside) h))
 
-  pub one-faulty : (k number place p : ℕ) {f : Fault} → k < byte t skeleton-count → RightBelow t k → JudgedAs (drawing-at t (block k)) f
+  pub one-faulty : (k number place p : ℕ) {f : Fault} → k < byte t skeleton-count → RightBelow t k → JudgedAs (drawing t (block k)) f
       → f ≡ Fault.Found number place
       → p ≡ place
       → JudgedAll (sheet-in t) (Accepted.Refused (record { number = number; place = p; skeleton = k }))
@@ -76,16 +77,16 @@ unfolding sheet-in rows-of
 fair-rows t f r = record { few = rw length-upto (f .terms); earlier-args = r .earlier; sorted-args = r .sorted; distinct = r .distinct }
 
 module _ (t : List ℕ) (f : Filled t) (r : Raw (sheet-in t)) (whole : (i : ℕ) → ¬ Lacking (rows-in t) i) where
-  pub all-ready : AllReady t
+  pub all-drawn : AllDrawn t
   unfolding sheet-in
-  all-ready =
+  all-drawn =
       record {
         at = λ k h. record {
           filled = f;
           good = good-of (sheet-in t) r whole;
           inside = omega (arith, f .skeletons);
           block = f .blocks k h;
-          on-table = r .drawings k (record { rows = rows-in t; skeleton = skeleton-in t k }) (has-skeleton t k h);
+          on-table = r .drawings k (drawing t (block k)) (has-skeleton t k h);
         };
         long = f .long;
         few = f .skeletons;

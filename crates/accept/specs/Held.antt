@@ -12,18 +12,18 @@ use Rattle.theory.specs.Judgement.{Sound}
 use Rattle.tables.specs.Layout.{skeleton-count, block, table-size}
 use Rattle.tables.specs.Tables.{byte, rows-in, sheet-in, Filled}
 use Rattle.keys.specs.Inverted.{Inverted}
-use Rattle.rules.specs.Judged.{drawing-at, Ready}
+use Rattle.tables.specs.Drawn.{drawing, Drawn}
 use Rattle.accept.specs.declared.Accepted.{Accepted}
 
 -- every skeleton of the table is ready to be judged
-pub record AllReady (t : List ℕ) : Type 0 where
-  pub at : (k : ℕ) → k < byte t skeleton-count → Ready t (block k)
+pub record AllDrawn (t : List ℕ) : Type 0 where
+  pub at : (k : ℕ) → k < byte t skeleton-count → Drawn t (block k)
   pub long : length t ≡ table-size
   pub few : byte t skeleton-count ≤ 2
 
 -- the first n skeletons of the table are right
 pub record RightBelow (t : List ℕ) (n : ℕ) : Type 0 where
-  pub at : (j : ℕ) → j < n → Right (drawing-at t (block j))
+  pub at : (j : ℕ) → j < n → Right (drawing t (block j))
 
 -- the sheet of the bytes is accepted, and lies in the tables
 pub record Held (bytes t inverses : List ℕ) : Type 0 where

@@ -6,46 +6,37 @@ ghost use lib.ListN.{length};
 ghost use Rattle.model.specs.Accepting.{Lacking};
 ghost use Rattle.theory.specs.Judgement.{Raw};
 ghost use Rattle.tables.specs.Tables.{rows-in, sheet-in, Filled};
-ghost use Rattle.rules.specs.Judged.{drawing-at, Ready, JudgedAs};
-ghost use Rattle.accept.specs.Held.{AllReady, SheetAs, AcceptedAs, JudgedAll};
+ghost use Rattle.tables.specs.Drawn.{drawing, Drawn};
+ghost use Rattle.rules.specs.Judged.{JudgedAs};
+ghost use Rattle.accept.specs.Held.{AllDrawn, SheetAs, AcceptedAs, JudgedAll};
 use keys::Keys;
 use keys::fill_inverses;
 use model::Refusal;
+use order::WORDS;
 use order::precedence;
 use reading::Reading;
 use reading::read_sheet;
 use rules::Fault;
 use rules::judge;
+use tables::MOST_TERMS;
+use tables::SKELETON_COUNT;
+use tables::blocks::block_of;
+use tables::wide;
 
 pub enum Accepted {
     Good,
     Refused(Refusal),
 }
 
-// How many bytes and words the tables take.
-pub const TABLE: usize = 1646;
+// How many bytes and words the tables beside it take.
+pub const INVERSES: usize = MOST_TERMS;
 
-pub const INVERSES: usize = 200;
-
-pub const BEFORE: usize = 192;
-
-// Where the count of skeletons stands, and where their blocks begin; the size of a block.
-const SKELETON_COUNT: usize = 601;
-
-const BLOCKS: usize = 602;
-
-const BLOCK: usize = 522;
-
-fn wide(b: u8) -> usize
-    ensures { λ r. ⌜ r ≡ b ⌝ }
-{
-    b as usize
-}
+pub const BEFORE: usize = WORDS;
 
 // Fills the matrix of the skeleton at `block`, and judges the skeleton.
 fn judge_block(table: &[u8], block: usize, before: &mut [u64]) -> Fault
-    requires { ⌜ Ready (now table) block × (length (now before) ≡ 192) ⌝ }
-    ensures { λ r. ⌜ JudgedAs (drawing-at (now (table .entry)) block) r
+    requires { ⌜ Drawn (now table) block × (length (now before) ≡ 192) ⌝ }
+    ensures { λ r. ⌜ JudgedAs (drawing (now (table .entry)) block) r
         × (length (now (before .exit)) ≡ 192) ⌝ }
 {
     precedence(table, block, before);
@@ -54,12 +45,12 @@ fn judge_block(table: &[u8], block: usize, before: &mut [u64]) -> Fault
 
 // Judges the skeletons in turn.
 fn judge_skeletons(table: &[u8], before: &mut [u64]) -> Accepted
-    requires { ⌜ AllReady (now table) × ((i : ℕ) → ¬ Lacking (rows-in (now table)) i) × (length (now before) ≡ 192) ⌝ }
+    requires { ⌜ AllDrawn (now table) × ((i : ℕ) → ¬ Lacking (rows-in (now table)) i) × (length (now before) ≡ 192) ⌝ }
     ensures { λ r. ⌜ JudgedAll (sheet-in (now (table .entry))) r ⌝ }
 {
     let count = table[SKELETON_COUNT];
     for k in 0..count {
-        let block = BLOCKS + BLOCK * wide(k);
+        let block = block_of(k);
         let fault = judge_block(table, block, before);
         match fault {
             Fault::Nothing => {}

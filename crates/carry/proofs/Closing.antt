@@ -22,7 +22,8 @@ use Rattle.theory.specs.OnSheet.{OnSheet}
 use Rattle.tables.specs.Tables.{byte, row-at, rows-in, Encoded, Filled}
 use Rattle.carry.specs.Next.{has-first, has-second, is-part, is-carried, parts-next}
 use Rattle.carry.specs.Sets.{Shows, EndsBy, InMember, IsParts, CarriedIn, IsCarried}
-use Rattle.carry.proofs.Shown.{is-T, empty}
+use Rattle.terms.proofs.Listed.{empty}
+use Rattle.carry.proofs.Shown.{is-T}
 use Rattle.carry.proofs.Rows.{rows-length, inside-in, row-in}
 use Rattle.carry.proofs.Parts.{part-occurs, has-occurring, part-carried, has-carried, carries-after}
 

@@ -1,57 +1,35 @@
 -- The lent numbers as a set, and carried only within it. Assumes nothing.
 use mathlib.Core.Path.{_≡_, refl, sym, ap, _∙_}
 use mathlib.Core.Bool.{Bool, true, false, not, _||_, true≢false}
-use mathlib.Core.List.{List, [], _∷_, _++_, List·Memᴰ, List·Memᴰ·head, List·Memᴰ·not-nil, List·Memᴰ·append-cases}
-use mathlib.Core.List.{List·Memᴰ·eq-of-singleton, Memᴰ·append-left, Memᴰ·append-right}
-use mathlib.Core.Logic.{_↔_, ⊎-elim, Iff·trans, Iff·symm}
+use mathlib.Core.List.{List}
+use mathlib.Core.Logic.{_↔_, Iff·trans, Iff·symm}
 use Prim.Native.Nat.{ℕ, _+_, _<_}
 use native.Mathlib.Numerals.{add-one}
 use native.Mathlib.Decide.{decLt}
-use lib.Dec.{eqb, eqb→eq, eqb-refl}
+use lib.Dec.{eqb}
 use lib.ListN.{length, getD, take}
 use lib.Seq.{take-suc, take-length}
 use Rattle.terms.specs.declared.TermSet.{TermSet}
-use Rattle.terms.specs.Set.{mem}
-use Rattle.terms.proofs.Words.{member-none}
+use Rattle.terms.specs.Set.{mem, IsSetOf}
+use Rattle.terms.proofs.Listed.{set-more}
 use Rattle.model.specs.Term.{Term}
 use Rattle.model.specs.Table.{Row, term}
 use Rattle.model.specs.Answers.{Member}
-use Rattle.theory.specs.Tests.{or-cases, or-left, or-right}
 use Rattle.theory.specs.Deciding.{dec-to}
 use Rattle.theory.specs.GoodTable.{Good}
 use Rattle.theory.specs.Numbers.{number, number-term, number-found}
 use Rattle.theory.specs.Within.{Loose, within-iff-not-loose}
 use Rattle.theory.specs.Carrying.{Marked}
 use Rattle.tables.specs.Tables.{byte, rows-in, Filled}
-use Rattle.carry.specs.Sets.{IsSetOf, AreTerms, IsLoose, WithinLent}
-use Rattle.carry.proofs.Shown.{is-T, empty}
+use Rattle.carry.specs.Sets.{AreTerms, IsLoose, WithinLent}
+use Rattle.carry.proofs.Shown.{is-T}
 use Rattle.carry.proofs.Rows.{rows-length}
 
--- The numbers passed so far: none, one more, all
-
-pub lent-none : IsSetOf [] empty
-lent-none = record { at = λ k. (λ e. absurd (true≢false (sym e ∙ member-none k)), λ m. absurd (List·Memᴰ·not-nil m)) }
-
-lent-more : {l : List ℕ} (x : ℕ) {s r : TermSet} → IsSetOf l s → ((k : ℕ) → mem r k ≡ (mem s k || eqb k x))
-    → IsSetOf (l ++ (x ∷ [])) r
-lent-more {l} x {s} {r} is made = record { at = λ k. rw (made k) (to k, from k) }
-  where
-    to : (k : ℕ) → (mem s k || eqb k x) ≡ true → List·Memᴰ k (l ++ (x ∷ []))
-    to k e =
-        ⊎-elim (λ h. Memᴰ·append-left (x ∷ []) (is .at k .0 (is-T (mem s k) .1 h)))
-        (λ h. Memᴰ·append-right l (List·Memᴰ·head (eqb→eq k x h)))
-        (or-cases (mem s k) (eqb k x) (is-T (mem s k || eqb k x) .0 e))
-
-    from : (k : ℕ) → List·Memᴰ k (l ++ (x ∷ [])) → (mem s k || eqb k x) ≡ true
-    from k m =
-        is-T (mem s k || eqb k x) .1
-        (⊎-elim (λ h. or-left (mem s k) (eqb k x) (is-T (mem s k) .0 (is .at k .1 h)))
-        (λ h. let e = List·Memᴰ·eq-of-singleton h in or-right (mem s k) (eqb k x) (rw e (eqb-refl x)))
-        (List·Memᴰ·append-cases l m))
+-- The numbers passed so far: one more, all
 
 pub lent-next : {s r : TermSet} (l : List ℕ) (q : ℕ) → q < length l → IsSetOf (take q l) s
     → ((k : ℕ) → mem r k ≡ (mem s k || eqb k (getD l q 0))) → IsSetOf (take (q + 1) l) r
-lent-next l q h is made = rw (add-one, take-suc l q 0) (lent-more (getD l q 0) is made)
+lent-next l q h is made = rw (add-one, take-suc l q 0) (set-more (getD l q 0) is made)
 
 pub lent-all : {s : TermSet} {l : List ℕ} {q : ℕ} → q ≡ length l → IsSetOf (take q l) s → IsSetOf l s
 lent-all {s} {l} e is = rw (e, take-length) at is

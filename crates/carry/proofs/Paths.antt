@@ -21,7 +21,8 @@ use Rattle.theory.specs.Carrying.{Marked}
 use Rattle.tables.specs.Tables.{byte, row-at, rows-in, Filled}
 use Rattle.carry.specs.Sets.{Shows, IsLoose, IsCarriers}
 use Rattle.carry.specs.Next.{part-carries, loose-next}
-use Rattle.carry.proofs.Shown.{is-T, empty, shows-same}
+use Rattle.terms.proofs.Listed.{empty}
+use Rattle.carry.proofs.Shown.{is-T, shows-same}
 use Rattle.carry.proofs.Rows.{inside-in, row-in}
 
 -- the term t is carried outside the set in u

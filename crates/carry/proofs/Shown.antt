@@ -1,7 +1,6 @@
 -- Laws of `Shows`: of no number at first, of one more, and of a property in other words. Assumes nothing.
 use mathlib.Core.Path.{_≡_, refl, sym, _∙_}
 use mathlib.Core.Bool.{Bool, true, false, _||_, _&&_, or-false, and-true, and-false, true≢false}
-use mathlib.Core.List.{[], _∷_}
 use mathlib.Core.Logic.{_↔_}
 use Prim.Native.Nat.{ℕ, _+_, _<_}
 use native.Mathlib.Omega.{arith}
@@ -11,6 +10,7 @@ use borrow.Author.Tests.{eq-eqb, ne-eqb}
 use Rattle.terms.specs.declared.TermSet.{TermSet}
 use Rattle.terms.specs.Set.{mem}
 use Rattle.terms.proofs.Words.{member-none}
+use Rattle.terms.proofs.Listed.{empty}
 use Rattle.carry.specs.Sets.{Shows}
 
 pub is-T : (b : Bool) → (b ≡ true) ↔ T b
@@ -20,9 +20,6 @@ is-T false = (λ e. absurd (true≢false (sym e)), λ h. absurd h)
 not-true-false : (b : Bool) → ¬ (b ≡ true) → b ≡ false
 not-true-false true n = absurd (n refl)
 not-true-false false n = refl
-
-abbrev pub empty : TermSet
-empty = record { words = 0 ∷ 0 ∷ 0 ∷ 0 ∷ [] }
 
 pub shows-none : (P : ℕ → Type 0) → Shows 0 P empty
 shows-none P = record { at = λ k. (λ e. absurd (true≢false (sym e ∙ member-none k)), λ h. absurd (omega arith)) }

@@ -56,10 +56,6 @@ pub record IsCarried (rows : List Row) (set s : TermSet) : Type 0 where
 pub record IsVariables (rows : List Row) (s : TermSet) : Type 0 where
   pub shows : Shows (length rows) (λ i. Variable (term rows i)) s
 
--- the set has the numbers of the list
-pub record IsSetOf (l : List ℕ) (s : TermSet) : Type 0 where
-  pub at : (k : ℕ) → (mem s k ≡ true) ↔ List·Memᴰ k l
-
 -- both numbers and those of the list are below n
 pub record AreTerms (n t t′ : ℕ) (S : List ℕ) : Type 0 where
   pub first : t < n

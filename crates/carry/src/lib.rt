@@ -5,21 +5,17 @@ ghost use mathlib.Core.Bool.{true, _||_, _&&_};
 ghost use mathlib.Core.Logic.{_↔_};
 ghost use Prim.Native.Nat.{ℕ, _≤_, _<_};
 ghost use lib.Dec.{eqb};
-ghost use Rattle.terms.specs.Set.{mem};
+ghost use Rattle.terms.specs.Set.{mem, IsSetOf};
 ghost use Rattle.theory.specs.GoodTable.{Good};
 ghost use Rattle.tables.specs.Tables.{byte, row-at, rows-in, Filled};
 ghost use Rattle.carry.specs.Next.{loose-next, is-part, is-carried, parts-next, is-variable};
-ghost use Rattle.carry.specs.Sets.{IsLoose, IsCarriers, IsSetOf, AreTerms, WithinLent};
+ghost use Rattle.carry.specs.Sets.{IsLoose, IsCarriers, AreTerms, WithinLent};
 ghost use Rattle.carry.specs.Sets.{EndsBy, IsParts, IsCarried, IsVariables};
+use tables::FIRSTS;
+use tables::SECONDS;
+use tables::TERM_COUNT;
 use terms::Term;
 use terms::TermSet;
-
-// Where the columns of the term table begin, and where its count stands.
-const FIRSTS: usize = 200;
-
-const SECONDS: usize = 400;
-
-const TERM_COUNT: usize = 600;
 
 // The set, with `t` too if it is so.
 fn with_if(set: TermSet, t: Term, so: bool) -> TermSet

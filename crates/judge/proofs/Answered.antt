@@ -71,6 +71,10 @@ sheet-counts {t} m n h p q =
       });
     }
 
+pub counts-small : {bytes t inverses : List ℕ} {m n : ℕ} → Held bytes t inverses → m ≡ byte t 600 → n ≡ byte t 601
+    → (m ≤ 255) × (n ≤ 255)
+counts-small h p q = (omega (arith, p, h .filled .terms), omega (arith, q, h .filled .skeletons))
+
 -- Questions about an accepted sheet
 
 module _ {A : Type 0} (Question : Verdict → Answer A → List ℕ → Type 0) where

@@ -6,6 +6,8 @@ ghost use Rattle.model.specs.Answers.{Gives, AskSheet, AskWithin, AskDerivable,
 ghost use Rattle.model.specs.Says.{node-of, sheet-says, yes-no-says, reach-says, realized-says, map-says, list-says};
 ghost use Rattle.judge.specs.Small.{SmallSheet, SmallYesNo, SmallReach, SmallRealized, SmallMap, SmallList};
 use accept::Accepted;
+use accept::BEFORE;
+use accept::INVERSES;
 use accept::accept;
 use model::ListAnswer;
 use model::MapAnswer;
@@ -13,25 +15,12 @@ use model::ReachAnswer;
 use model::RealizedAnswer;
 use model::SheetAnswer;
 use model::YesNo;
+use tables::SKELETON_COUNT;
+use tables::TABLE;
+use tables::TERM_COUNT;
+use tables::wide;
 use terms::Node;
 use terms::Term;
-
-// How many bytes and words the tables take, and where the counts of terms and skeletons stand.
-const TABLE: usize = 1646;
-
-const INVERSES: usize = 200;
-
-const BEFORE: usize = 192;
-
-const TERM_COUNT: usize = 600;
-
-const SKELETON_COUNT: usize = 601;
-
-fn wide(b: u8) -> usize
-    ensures { λ r. ⌜ (r ≡ b) × (r ≤ 255) ⌝ }
-{
-    b as usize
-}
 
 // Is the sheet good, and how many terms and skeletons has it?
 pub fn sheet(bytes: &[u8]) -> SheetAnswer

@@ -10,19 +10,12 @@ ghost use Rattle.tables.specs.Layout.{term-count};
 ghost use Rattle.tables.specs.Tables.{byte, rows-in, Filled};
 ghost use Rattle.keys.specs.Inverted.{Paired};
 ghost use Rattle.keys.specs.Partners.{Own, Partners};
+use tables::FIRSTS;
+use tables::TERM_COUNT;
+use tables::rows::ASYMMETRIC;
+use tables::rows::INVERSE;
+use tables::rows::PUBLIC;
 use terms::Term;
-
-// Where the first arguments begin in the table, and where the count of the terms stands.
-const FIRSTS: usize = 200;
-
-const TERM_COUNT: usize = 600;
-
-// The kinds of keys and of their inverses.
-const ASYMMETRIC: u8 = 6;
-
-const PUBLIC: u8 = 7;
-
-const INVERSE: u8 = 8;
 
 pub enum Keys {
     Paired,

@@ -1,17 +1,17 @@
 -- Each candidate has one number, numbers rise in dictionary order, and the candidates that pass are the list. Assumes nothing.
-use mathlib.Core.Path.{_≡_, refl, ap, ap₂, _∙_, sym as back}
+use mathlib.Core.Path.{_≡_, refl, ap, _∙_, sym as back}
 use mathlib.Core.Bool.{Bool, true, false, cond}
-use mathlib.Core.Logic.{_↔_, _⊎_, inl, inr, ⊎-elim}
+use mathlib.Core.Logic.{_↔_, ⊎-elim}
 use mathlib.Core.List.{List, [], _∷_, _++_, List·Memᴰ, List·Memᴰ·head, List·Memᴰ·tail, List·Memᴰ·not-nil, List·Memᴰ·cases-cons, List·Memᴰ·append-cases, Memᴰ·append-left, Memᴰ·append-right}
 use Prim.Native.Nat.{ℕ, zero, suc, _+_, _*_, _/_, _%_, _^_, _≤_, _<_}
 use native.Mathlib.Omega.{arith}
-use native.Mathlib.Decide.{decLt, ℕ-discrete}
+use native.Mathlib.Decide.{ℕ-discrete}
 use native.Mathlib.Nat.{div-add-mod', div-lt-iff-lt-mul, mod-lt, one-le-pow, suc-mul, pow-zero, pow-suc, mul-comm, mul-le-mul-right, add-mul-div-right, mul-add-mod-self-right, div-eq-of-lt, mod-eq-of-lt}
 use lib.ListN.{length, getD}
 use Rattle.model.specs.Term.{Term}
 use Rattle.model.specs.Skeleton.{Skeleton}
 use Rattle.model.specs.Rising.{Rising, none, more, InDictionary, first, later}
-use Rattle.model.specs.Maps.{OneByteEach, IsStrandMap, TheMaps}
+use Rattle.model.specs.Maps.{IsStrandMap, TheMaps}
 use Rattle.list.specs.Candidates.{digits, passing}
 
 pub digits-length : (n base c : ℕ) → length (digits n base c) ≡ n

@@ -24,16 +24,14 @@ use list::put_digits;
 use list::write_marked;
 use mapping::Atoms;
 use mapping::atoms_of;
-use mapping::block_of;
 use mapping::fill_origins;
-use mapping::has_skeleton;
 use mapping::judge_map;
 use model::ListAnswer;
 use model::Refusal;
 use order::precedence;
-
-// Where the count of strands stands in a skeleton's block.
-const STRAND_COUNT: usize = 0;
+use tables::STRAND_COUNT;
+use tables::blocks::block_of;
+use tables::blocks::has_skeleton;
 
 // Whether candidate c is a map.
 fn is_map(

@@ -14,10 +14,10 @@ use Rattle.tables.specs.Layout.{block, skeleton-count, term-count}
 use Rattle.tables.specs.Tables.{byte, rows-in, skeleton-in, sheet-in}
 use Rattle.keys.proofs.Rows.{count-is}
 use Rattle.accept.specs.Held.{Stored}
-use Rattle.accept.proofs.Lies.{has-skeleton, skeleton-lies, or-ordered}
-use Rattle.maps.specs.Drawn.{Drawn}
+use Rattle.accept.proofs.Lies.{has-skeleton, skeleton-lies, is-drawn, is-right, or-ordered}
+use Rattle.tables.specs.Drawn.{drawing}
 use Rattle.mapping.specs.Listed.{AtomsListed}
-use Rattle.mapping.specs.Judged.{IsRight, Asked, JudgedAs}
+use Rattle.mapping.specs.Judged.{Asked, JudgedAs}
 use Rattle.mapping.specs.Written.{Written}
 use Rattle.mapping.proofs.Writing.{images-written}
 
@@ -33,23 +33,6 @@ unfolding sheet-in
 good-rows t s = s .sound .good
 
 module _ (t : List ℕ) {inverses : List ℕ} (stored : Stored t inverses) where
-  abbrev drawing : ℕ → Drawing
-  drawing k = record { rows = rows-in t; skeleton = skeleton-in t k }
-
-  is-drawn : (k : ℕ) → k < byte t skeleton-count → Drawn t (block k)
-  is-drawn k h =
-      record {
-        filled = stored .filled;
-        good = good-rows t stored;
-        room = omega (arith, h, stored .filled .skeletons);
-        block = stored .filled .blocks k h;
-        on-table = stored .sound .drawings k (drawing k) (has-skeleton t k h);
-      }
-
-  is-right : (k : ℕ) → k < byte t skeleton-count → IsRight (rows-in t) (skeleton-in t k)
-  unfolding meant
-  is-right k h = stored .sound .skeletons k (drawing k) (has-skeleton t k h)
-
   module _ (listed : AtomsListed t) (source target : ℕ) where
     pub is-asked : {a b : Bool} → (a ≡ true) ↔ (source < byte t skeleton-count) → (b ≡ true) ↔ (target < byte t skeleton-count)
         → (a && b) ≡ true
@@ -57,16 +40,32 @@ module _ (t : List ℕ) {inverses : List ℕ} (stored : Stored t inverses) where
     is-asked {a} {b} from to e =
         let h = from .0 (both-true a b e .0) in
         let k = to .0 (both-true a b e .1) in
+        let drawn = is-drawn t (stored .filled) (stored .sound) target k in
         record {
-          source = is-drawn source h;
-          target = is-drawn target k;
-          source-right = is-right source h;
-          target-right = is-right target k;
-          ordered = or-ordered t (block target) (stored .filled .blocks target k) (is-drawn target k .on-table);
+          source = is-drawn t (stored .filled) (stored .sound) source h;
+          target = drawn;
+          source-right = is-right t (stored .filled) (stored .sound) source h;
+          target-right = is-right t (stored .filled) (stored .sound) target k;
+          ordered = or-ordered t (block target) (drawn .block) (drawn .on-table);
           inverses-are = record { long = stored .inverses-long; inverted = stored .inverted };
           nons = listed .nons source h;
           uniqs = listed .uniqs source h;
         }
+
+-- two skeletons that are asked for, and the tests whether they are there
+module _ (t : List ℕ) (source target : ℕ) {a b : Bool} (from : (a ≡ true) ↔ (source < byte t skeleton-count))
+    (to : (b ≡ true) ↔ (target < byte t skeleton-count)) where
+  pub one-lacks : (a && b) ≡ false → (x : Drawing × Drawing) → ¬ HasSkeletons source target (sheet-in t) x
+  one-lacks e x h =
+      not-both a b e (from .1 (skeleton-lies t source (x .0) (h .from) .inside))
+      (to .1 (skeleton-lies t target (x .1) (h .to) .inside))
+
+  pub both-there : (a && b) ≡ true → HasSkeletons source target (sheet-in t) (drawing t (block source), drawing t (block target))
+  both-there e =
+      record {
+        from = has-skeleton t source (from .0 (both-true a b e .0));
+        to = has-skeleton t target (to .0 (both-true a b e .1));
+      }
 
 -- the three answers
 module _ (t : List ℕ) (source target : ℕ) (map lent : List ℕ) where
@@ -74,28 +73,21 @@ module _ (t : List ℕ) (source target : ℕ) (map lent : List ℕ) where
   Ask = AskMap source target map lent (Verdict.accepted (sheet-in t))
 
   abbrev pair : Drawing × Drawing
-  pair =
-      (record { rows = rows-in t; skeleton = skeleton-in t source }, record { rows = rows-in t; skeleton = skeleton-in t target })
+  pair = (drawing t (block source), drawing t (block target))
 
   module _ {a b : Bool} (from : (a ≡ true) ↔ (source < byte t skeleton-count))
       (to : (b ≡ true) ↔ (target < byte t skeleton-count)) where
     pub lacks-one : {says : Answer Mapping} → (a && b) ≡ false → says ≡ refused (refusal 15) → Ask says lent
     unfolding AskMap
-    lacks-one e is =
-        rw is (no-such (λ x h. not-both a b e (from .1 (skeleton-lies t source (x .0) (h .from) .inside))
-        (to .1 (skeleton-lies t target (x .1) (h .to) .inside))))
+    lacks-one e is = rw is (no-such (one-lacks t source target from to e))
 
     module _ (e : (a && b) ≡ true) where
-      both-there : HasSkeletons source target (sheet-in t) pair
-      both-there =
-          record {
-            from = has-skeleton t source (from .0 (both-true a b e .0));
-            to = has-skeleton t target (to .0 (both-true a b e .1));
-          }
+      abbrev there : HasSkeletons source target (sheet-in t) pair
+      there = both-there t source target from to e
 
       pub short-room : {says : Answer Mapping} → length lent < byte t term-count → says ≡ refused (refusal 16) → Ask says lent
       unfolding AskMap ImageRoom
-      short-room l is = rw is (too-short both-there (λ r. omega (arith, count-is t, r, l)))
+      short-room l is = rw is (too-short there (λ r. omega (arith, count-is t, r, l)))
 
       module _ (room : byte t term-count ≤ length lent) {images : List ℕ} {rule : ℕ}
           (judged : JudgedAs (rows-in t) (skeleton-in t source) (skeleton-in t target) map images rule) where
@@ -110,7 +102,7 @@ module _ (t : List ℕ) (source target : ℕ) (map lent : List ℕ) where
             go : {r : ℕ} → JudgedAs (rows-in t) (skeleton-in t source) (skeleton-in t target) map images r → ¬ (r ≡ 0)
                 → Ask (answered (breaks r)) lent
             go (JudgedAs.holds k m) z = absurd (z refl)
-            go (JudgedAs.broken x) z = said both-there enough (no-map x)
+            go (JudgedAs.broken x) z = said there enough (no-map x)
 
         pub is-a-map : {after : List ℕ} → rule ≡ 0 → Written (rows-in t) images lent after → Ask (answered is-map) after
         unfolding AskMap meant
@@ -119,5 +111,5 @@ module _ (t : List ℕ) (source target : ℕ) (map lent : List ℕ) where
             go : {r : ℕ} → JudgedAs (rows-in t) (skeleton-in t source) (skeleton-in t target) map images r → r ≡ 0
                 → Ask (answered is-map) after
             go (JudgedAs.holds {σ} k m) z =
-                rw (w .is) (said both-there enough (yes-map k (images-written m (k .messages (omega arith)) w)))
+                rw (w .is) (said there enough (yes-map k (images-written m (k .messages (omega arith)) w)))
             go (JudgedAs.broken x) z = absurd (omega arith)

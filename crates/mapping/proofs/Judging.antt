@@ -18,7 +18,6 @@ use Rattle.matching.specs.Matches.{Matches, Takes}
 use Rattle.maps.specs.Rules.{Tells1, Tells2, Tells4, Tells5, Tells6}
 use Rattle.tables.specs.Tables.{rows-in, skeleton-at}
 use Rattle.matching.specs.Ready as Matching
-use Rattle.maps.specs.Drawn.{Drawn}
 use Rattle.maps.specs.Images.{Ready}
 use Rattle.maps.specs.Atoms.{Matched}
 use Rattle.mapping.specs.declared.Atoms.{Atoms}
@@ -148,9 +147,6 @@ ready p =
 -- what the tests of rules 5 and 6 ask
 pub images-ready : {t inverses images : List ℕ} {a b : ℕ} → Asked t inverses a b → length images ≡ 200 → Ready t images
 images-ready p l = record { filled = p .source .filled; good = p .source .good; long = l }
-
-pub drawn : {t : List ℕ} {b : ℕ} → Drawn t b → Matching.Drawn t b
-drawn d = record { fits = d .room; block = d .block; on-table = d .on-table }
 
 pub was-matched : {rows : List Row} {A B : Skeleton ℕ} {map images : List ℕ} {r : Bool} → Matches rows A B map images r → r ≡ true
     → Matches rows A B map images true

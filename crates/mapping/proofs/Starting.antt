@@ -9,7 +9,7 @@ use lib.Seq.{getD-set-same, getD-set-other}
 use borrow.Author.Count.{below-none, below-more}
 use Rattle.terms.specs.declared.TermSet.{TermSet}
 use Rattle.terms.specs.declared.Node as Code
-use Rattle.terms.specs.Set.{mem}
+use Rattle.terms.specs.Set.{mem, IsSetOf}
 use Rattle.model.specs.Table.{Row, term}
 use Rattle.model.specs.Skeleton.{Node, Skeleton, means}
 use Rattle.model.specs.Says.{node-of}
@@ -20,9 +20,9 @@ use Rattle.tables.specs.Tables.{byte, skeleton-at, Block}
 use Rattle.carry.specs.Sets.{IsCarriers}
 use Rattle.origin.specs.declared.Origins.{Origins}
 use Rattle.origin.specs.Marked.{FirstSent, OriginatesAs}
-use Rattle.origin.proofs.Nodes.{strand-low, position-low}
+use Rattle.tables.proofs.Nodes.{strand-low, position-low}
 use Rattle.rules.proofs.Transfer.{origin-iff}
-use Rattle.maps.specs.Rules.{IsAtoms, IsOrigins}
+use Rattle.maps.specs.Rules.{IsOrigins}
 use Rattle.mapping.specs.Origins.{StartsAt, MemberStarts}
 
 -- the node that is found
@@ -97,7 +97,7 @@ module _ {rows : List Row} {K : Skeleton ℕ} {members : TermSet} where
             (rw (getD-set-same origins n r 0 h) this);
       }
 
-  pub all-origins : {n : ℕ} {origins : List ℕ} → OnTable rows K → IsSkeleton (means (term rows) K) → IsAtoms (K .uniq) members
+  pub all-origins : {n : ℕ} {origins : List ℕ} → OnTable rows K → IsSkeleton (means (term rows) K) → IsSetOf (K .uniq) members
       → length rows ≤ n
       → StartsBelow rows K members n origins
       → IsOrigins rows K origins

@@ -5,6 +5,7 @@ use mathlib.Core.List.{List}
 use Prim.Native.Nat.{ℕ, suc}
 use lib.Dec.{T}
 use lib.ListN.{length}
+use Rattle.terms.specs.Set.{IsSetOf}
 use Rattle.model.specs.Table.{Row, term}
 use Rattle.model.specs.Reading.{an-atom}
 use Rattle.model.specs.Skeleton.{Skeleton, means}
@@ -15,15 +16,15 @@ use Rattle.theory.specs.Skeletons.{IsSkeleton}
 use Rattle.tables.specs.Tables.{rows-in, skeleton-at}
 use Rattle.order.specs.Precedence.{Shows, Ordered}
 use Rattle.matching.specs.Matches.{Matches}
-use Rattle.maps.specs.Rules.{IsAtoms, IsOrigins}
-use Rattle.maps.specs.Drawn.{Drawn}
+use Rattle.maps.specs.Rules.{IsOrigins}
+use Rattle.tables.specs.Drawn.{Drawn}
 use Rattle.maps.specs.Images.{Inverses}
 use Rattle.mapping.specs.declared.Atoms.{Atoms}
 
 -- the sets are those of the skeleton's NO and UO atoms
 pub record AtomsAre (K : Skeleton ℕ) (sets : Atoms) : Type 0 where
-  pub nons : IsAtoms (K .non) (sets .nons)
-  pub uniqs : IsAtoms (K .uniq) (sets .uniqs)
+  pub nons : IsSetOf (K .non) (sets .nons)
+  pub uniqs : IsSetOf (K .uniq) (sets .uniqs)
 
 -- the skeleton obeys the skeleton rules
 abbrev pub IsRight : List Row → Skeleton ℕ → Type 0

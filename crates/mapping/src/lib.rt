@@ -4,6 +4,7 @@ ghost use mathlib.Core.Bool.{true};
 ghost use mathlib.Core.Logic.{_↔_};
 ghost use Prim.Native.Nat.{_+_, _<_, _≤_};
 ghost use lib.ListN.{length};
+ghost use Rattle.terms.specs.Set.{IsSetOf};
 ghost use Rattle.model.specs.Sheet.{Verdict};
 ghost use Rattle.model.specs.Answers.{AskMap};
 ghost use Rattle.model.specs.Says.{map-says, refusal-of};
@@ -12,15 +13,14 @@ ghost use Rattle.theory.specs.GoodTable.{Good};
 ghost use Rattle.tables.specs.Layout.{term-count, skeleton-count, block};
 ghost use Rattle.tables.specs.Tables.{byte, rows-in, skeleton-at, sheet-in, Filled};
 ghost use Rattle.accept.specs.Held.{Stored};
-ghost use Rattle.maps.specs.Rules.{IsAtoms, IsOrigins};
-ghost use Rattle.maps.specs.Drawn.{Drawn};
+ghost use Rattle.maps.specs.Rules.{IsOrigins};
+ghost use Rattle.tables.specs.Drawn.{Drawn};
 ghost use Rattle.mapping.specs.Judged.{AtomsAre, IsRight, Asked, Prepared, JudgedAs};
 ghost use Rattle.mapping.specs.Origins.{StartsAt, MemberStarts};
 ghost use Rattle.mapping.specs.Written.{Written};
 ghost use Rattle.mapping.specs.Listed.{AtomsListed};
 use carry::carriers;
 use carry::variables;
-use maps::atoms;
 use maps::rule_five;
 use maps::rule_four;
 use maps::rule_one;
@@ -32,26 +32,17 @@ use model::Refusal;
 use order::precedence;
 use origin::Origins;
 use origin::find_origins;
+use tables::NON_COUNT;
+use tables::NONS;
+use tables::TERM_COUNT;
+use tables::UNIQ_COUNT;
+use tables::UNIQS;
+use tables::blocks::atoms;
+use tables::blocks::block_of;
+use tables::blocks::has_skeleton;
+use tables::wide;
 use terms::Term;
 use terms::TermSet;
-
-// Where the counts of terms and skeletons stand, and where the skeletons' blocks begin; the size of a block.
-const TERM_COUNT: usize = 600;
-
-const SKELETON_COUNT: usize = 601;
-
-const BLOCKS: usize = 602;
-
-const BLOCK: usize = 522;
-
-// Where things lie in a skeleton's block.
-const NON_COUNT: usize = 2;
-
-const UNIQ_COUNT: usize = 3;
-
-const NONS: usize = 458;
-
-const UNIQS: usize = 490;
 
 // The byte of a term that has no image.
 const NONE: u8 = 255;
@@ -60,12 +51,6 @@ const NONE: u8 = 255;
 pub struct Atoms {
     pub nons: TermSet,
     pub uniqs: TermSet,
-}
-
-fn wide(b: u8) -> usize
-    ensures { λ r. ⌜ (r ≡ b) × (r ≤ 255) ⌝ }
-{
-    b as usize
 }
 
 // The NO atoms and the UO atoms of the skeleton at `block`.
@@ -106,7 +91,7 @@ fn member_origin(table: &[u8], block: usize, uniqs: TermSet, a: Term) -> u8
 // Fills in where each UO atom originates.
 pub fn fill_origins(table: &[u8], block: usize, uniqs: TermSet, origins: &mut [u8])
     requires { ⌜ Drawn (now table) block × IsRight (rows-in (now table)) (skeleton-at (now table) block)
-        × IsAtoms (skeleton-at (now table) block .uniq) uniqs × (length (now origins) ≡ 200) ⌝ }
+        × IsSetOf (skeleton-at (now table) block .uniq) uniqs × (length (now origins) ≡ 200) ⌝ }
     ensures { λ r. ⌜ IsOrigins (rows-in (now (table .entry))) (skeleton-at (now (table .entry)) block) (now (origins .exit))
         × (length (now (origins .exit)) ≡ 200) ⌝ }
 {
@@ -223,21 +208,6 @@ fn write_images(table: &[u8], images: &[u8], lent: &mut [u8])
     for i in 0..table[TERM_COUNT] {
         lent[i as usize] = shown(variables, images, i);
     }
-}
-
-// Whether the sheet has this skeleton.
-pub fn has_skeleton(table: &[u8], k: u8) -> bool
-    requires { ⌜ Filled (now table) ⌝ }
-    ensures { λ r. ⌜ (r ≡ true) ↔ (k < byte (now (table .entry)) skeleton-count) ⌝ }
-{
-    k < table[SKELETON_COUNT]
-}
-
-// Where the skeleton's block begins.
-pub fn block_of(k: u8) -> usize
-    ensures { λ r. ⌜ r ≡ block k ⌝ }
-{
-    BLOCKS + BLOCK * wide(k)
 }
 
 // "15: no such skeleton, term, or reception asked for", "16: lent space too short"

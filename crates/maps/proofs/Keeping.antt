@@ -11,23 +11,26 @@ use lib.ListN.{length, getD}
 use borrow.Author.Tests.{eqb-true, ne-eqb}
 use Rattle.model.specs.Term.{Term, tag}
 use Rattle.model.specs.Table.{term}
-use Rattle.model.specs.Skeleton.{send, Node, Skeleton, trace, height, means, on-message}
+use Rattle.model.specs.Skeleton.{send, Node, Skeleton, At, trace, height, means, on-message}
 use Rattle.model.specs.Reading.{event}
 use Rattle.model.specs.Events.{Before, next, listed, chain}
 use Rattle.model.specs.Maps.{move, SameDirection, both-send, both-receive, Rule2, Rule4}
-use Rattle.theory.specs.Places.{inside-list}
+use Rattle.theory.specs.Upto.{OneOf}
+use Rattle.theory.specs.Places.{inside-list, element-at}
 use Rattle.theory.specs.Precedence as Precedence
 use Rattle.theory.specs.Precedence.{all-steps, edges}
 use Rattle.theory.specs.Happenings.{at-means, at-meant, before-means, before-meant}
 use Rattle.tables.specs.Layout.{strand-count, order-count, heights, directions, orders}
 use Rattle.tables.specs.Tables.{byte, rows-in, skeleton-at}
+use Rattle.tables.specs.Nodes.{direction-at, message-at, There}
+use Rattle.tables.proofs.Look.{length-strands}
+use Rattle.tables.proofs.Nodes.{strands-meant, stands-at, at-stands, pair-at, pair-in, pair-of}
 use Rattle.order.specs.Precedence.{on, code, Low, Shows}
 use Rattle.matching.specs.Matches.{Laid}
 use Rattle.maps.specs.Rules.{KeptTo1, Tells1}
-use Rattle.maps.specs.Drawn.{Drawn}
+use Rattle.tables.specs.Drawn.{Drawn}
 use Rattle.maps.specs.Strands.{AllBelow, SameDirections, StrandKept, moved-at}
 use Rattle.maps.proofs.Answers.{refused}
-use Rattle.maps.proofs.Nodes.{OneOf, element-at, strands-in, strands-meant, event-at, stands-at, at-stands, pair-at, pair-in, pair-of}
 
 -- Equal directions, of two events by their bytes
 
@@ -96,6 +99,10 @@ module _ (t : List ℕ) (a b : ℕ) (map : List ℕ) where
   abbrev to : ℕ → ℕ
   to s = getD map s 0
 
+  -- the event of the bytes
+  event-stands : (c : ℕ) (n : Node) → There t c n → At (skeleton-at t c) n (event (direction-at t c n) (message-at t c n))
+  event-stands c n h = stands-at t c {n = n} {e = event (direction-at t c n) (message-at t c n)} (record { there = h; is = refl })
+
   -- Rule 1
 
   pub one-told : {r : Bool} → length map ≡ byte t (a + strand-count) → (r ≡ true) ↔ AllBelow map (byte t (b + strand-count))
@@ -129,11 +136,11 @@ module _ (t : List ℕ) (a b : ℕ) (map : List ℕ) where
     strands-kept kept n e at =
         let (e₀, at₀, q) = at-meant means-term A at in
         let s = at-stands t a at₀ in
-        let h : n .strand < length map = omega (arith, full, s .strand) in
+        let h : n .strand < length map = omega (arith, full, s .there .strand) in
         let k = kept (n .strand) h in
-        let there = stands-at t b {n = move to n} {e = event-at t b (move to n)}
-        (record { strand = inside (n .strand) h; position = omega (arith, s .position, k .high); is = refl }) in
-        let way = same-event means-term _ _ _ _ (k .same .at (n .position) (s .position)) in
+        let there = event-stands b (move to n)
+        (record { strand = inside (n .strand) h; position = omega (arith, s .there .position, k .high) }) in
+        let way = same-event means-term _ _ _ _ (k .same .at (n .position) (s .there .position)) in
         (_, at-means means-term B there, rw (← q, ← s .is) way)
 
     module _ (two : Rule2 (means means-term A) (means means-term B) to) (s : ℕ) (h : s < length map) where
@@ -146,12 +153,11 @@ module _ (t : List ℕ) (a b : ℕ) (map : List ℕ) where
       unfolding Rule2
       met p l =
           let n : Node = record { strand = s; position = p } in
-          let here = stands-at t a {n = n} {e = event-at t a n}
-          (record { strand = omega (arith, full); position = l; is = refl }) in
+          let here = event-stands a n (record { strand = omega (arith, full); position = l }) in
           let (d, at, way) = two n _ (at-means means-term A here) in
           let (d₀, at₀, q) = at-meant means-term B at in
           let u = at-stands t b at₀ in
-          record { there = u .position; same = event-same means-term _ _ _ _ (rw (← q, ← u .is) at way) }
+          record { there = u .there .position; same = event-same means-term _ _ _ _ (rw (← q, ← u .is) at way) }
 
       pub strand-kept : StrandKept t a b s (to s)
       strand-kept =
@@ -172,7 +178,7 @@ module _ (t : List ℕ) (a b : ℕ) (map : List ℕ) where
 
       end : (i : ℕ) → byte t (i + 1) < 16 → byte t i * 16 + byte t (i + 1) < length (A .strands) * 16 → End t map i
       end i p c =
-          let s : byte t i < length map = omega (arith, full, strands-in t a) in
+          let s : byte t i < length map = omega (arith, full, length-strands t a) in
           record {
             strand = s;
             low = record { strand = omega (arith, inside (byte t i) s, target .block .strands); position = p };

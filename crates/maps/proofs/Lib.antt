@@ -1,8 +1,6 @@
 -- Laws that belong to no one function; what rule 3 leaves for the atoms, and what rule 6's test asks of origins.
 mod Answers
-mod Nodes
 mod Keeping
-mod Listed
 mod Found
 pub mod Sending
 pub mod Starting

@@ -10,7 +10,7 @@ use lib.ListN.{length, getD}
 use borrow.Author.Count.{below-none, below-more}
 use Rattle.terms.specs.declared.Term as Number
 use Rattle.terms.specs.declared.TermSet.{TermSet}
-use Rattle.terms.specs.Set.{mem}
+use Rattle.terms.specs.Set.{mem, IsSetOf}
 use Rattle.model.specs.Term.{Term}
 use Rattle.model.specs.Subst.{Subst, apply}
 use Rattle.model.specs.Table.{Row, term}
@@ -30,7 +30,7 @@ use Rattle.tables.specs.Tables.{byte, rows-in}
 use Rattle.keys.proofs.Rows.{count-is}
 use Rattle.matching.specs.Matches.{Takes}
 use Rattle.maps.specs.declared.Image.{Image}
-use Rattle.maps.specs.Rules.{Tells5, Tells6, IsAtoms, IsOrigins}
+use Rattle.maps.specs.Rules.{Tells5, Tells6, IsOrigins}
 use Rattle.maps.specs.Images.{Ready, Gives, Known, Imaged}
 use Rattle.maps.specs.Atoms.{In, Moved, Asks, GoesIn, OriginGoes, Matched, Judges5, Judges6}
 use Rattle.maps.proofs.Answers.{granted, refused, was-no}
@@ -163,18 +163,18 @@ module _ {rows : List Row} (good : Good rows) (few : length rows ≤ 200) {A B :
   occur : AtomsOccur A′
   occur = skeleton-atoms A′ (matched .source)
 
-  pub known-non : {from : TermSet} → IsAtoms (A .non) from → (i : ℕ) → mem from i ≡ true → Known rows images i
+  pub known-non : {from : TermSet} → IsSetOf (A .non) from → (i : ℕ) → mem from i ≡ true → Known rows images i
   unfolding means
   known-non is i m =
       let l = is .at i .0 m in known (matched .nons i l) (occur .non (term rows i) (Memᴰ·map (term rows) l))
 
-  pub known-uniq : {from : TermSet} → IsAtoms (A .uniq) from → (i : ℕ) → mem from i ≡ true → Known rows images i
+  pub known-uniq : {from : TermSet} → IsSetOf (A .uniq) from → (i : ℕ) → mem from i ≡ true → Known rows images i
   unfolding means
   known-uniq is i m =
       let l = is .at i .0 m in known (matched .uniqs i l) (occur .uniq (term rows i) (Memᴰ·map (term rows) l))
 
   module _ {from to : TermSet} {r : Bool} where
-    five-told : All rows images from (GoesIn rows to) (length rows) r → IsAtoms (A .non) from → IsAtoms (B .non) to
+    five-told : All rows images from (GoesIn rows to) (length rows) r → IsSetOf (A .non) from → IsSetOf (B .non) to
         → Tells5 rows A B map r
     unfolding Rule5 means
     five-told all source target σ takes =
@@ -199,8 +199,8 @@ module _ {rows : List Row} (good : Good rows) (few : length rows ≤ 200) {A B :
   low-target {n = n} o = let (e, at, _) = at-meant (term rows) B (o .at) in matched .target-on .positions n e at
 
   module _ {from to : TermSet} {origins targets : List ℕ} {r : Bool} where
-    six-told : All rows images from (OriginGoes rows to map origins targets) (length rows) r → IsAtoms (A .uniq) from
-        → IsAtoms (B .uniq) to
+    six-told : All rows images from (OriginGoes rows to map origins targets) (length rows) r → IsSetOf (A .uniq) from
+        → IsSetOf (B .uniq) to
         → IsOrigins rows A origins
         → IsOrigins rows B targets
         → Tells6 rows A B map r

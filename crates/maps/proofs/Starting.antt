@@ -6,7 +6,7 @@ use Prim.Native.Nat.{ℕ, _/_, _<_}
 use native.Mathlib.Omega.{arith}
 use lib.ListN.{length}
 use Rattle.terms.specs.declared.TermSet.{TermSet}
-use Rattle.terms.specs.Set.{mem}
+use Rattle.terms.specs.Set.{mem, IsSetOf}
 use Rattle.model.specs.Table.{Row, term}
 use Rattle.model.specs.Skeleton.{Skeleton}
 use Rattle.theory.specs.GoodTable.{Good}
@@ -14,11 +14,11 @@ use Rattle.theory.specs.Happenings.{at-meant}
 use Rattle.theory.specs.Precedence as Precedence
 use Rattle.theory.specs.OnTable.{OnTable, node-inside}
 use Rattle.tables.specs.Tables.{byte}
-use Rattle.maps.specs.Rules.{IsAtoms, IsOrigins}
+use Rattle.maps.specs.Rules.{IsOrigins}
 use Rattle.maps.specs.Atoms.{Starts}
 
 module _ {rows : List Row} (good : Good rows) {K : Skeleton ℕ} (ok : OnTable rows K) {from : TermSet} {origins : List ℕ}
-    (is : IsAtoms (K .uniq) from) (starts : IsOrigins rows K origins) where
+    (is : IsSetOf (K .uniq) from) (starts : IsOrigins rows K origins) where
   strand-low : (i : ℕ) → mem from i ≡ true → byte origins i / 16 < length (K .strands)
   unfolding Precedence.code Precedence.Low
   strand-low i m =

@@ -7,7 +7,7 @@ use Prim.Native.Nat.{ℕ, _+_, _*_, _/_, _%_, _<_}
 use lib.Dec.{T}
 use lib.ListN.{length, getD}
 use Rattle.terms.specs.declared.TermSet.{TermSet}
-use Rattle.terms.specs.Set.{mem}
+use Rattle.terms.specs.Set.{mem, IsSetOf}
 use Rattle.model.specs.Term.{Term}
 use Rattle.model.specs.Subst.{Subst, apply}
 use Rattle.model.specs.Table.{Row, term}
@@ -18,7 +18,7 @@ use Rattle.theory.specs.Skeletons.{IsSkeleton}
 use Rattle.theory.specs.OnTable.{OnTable}
 use Rattle.tables.specs.Tables.{byte}
 use Rattle.matching.specs.Matches.{Matches}
-use Rattle.maps.specs.Rules.{Tells5, Tells6, IsAtoms, IsOrigins}
+use Rattle.maps.specs.Rules.{Tells5, Tells6, IsOrigins}
 use Rattle.maps.specs.Images.{Gives, Known}
 
 module _ (rows : List Row) where
@@ -61,12 +61,12 @@ module _ (rows : List Row) where
 
   -- what rule 5's test says, of all skeletons whose NO atoms are in the sets
   pub record Judges5 (images : List ℕ) (from to : TermSet) (r : Bool) : Type 0 where
-    pub tells : (A B : Skeleton ℕ) (map : List ℕ) → Matched A B map images → IsAtoms (A .non) from → IsAtoms (B .non) to
+    pub tells : (A B : Skeleton ℕ) (map : List ℕ) → Matched A B map images → IsSetOf (A .non) from → IsSetOf (B .non) to
         → Tells5 rows A B map r
 
   -- what rule 6's test says, of all skeletons whose UO atoms are in the sets
   pub record Judges6 (images map : List ℕ) (from to : TermSet) (origins targets : List ℕ) (r : Bool) : Type 0 where
-    pub tells : (A B : Skeleton ℕ) → Matched A B map images → IsAtoms (A .uniq) from → IsAtoms (B .uniq) to
+    pub tells : (A B : Skeleton ℕ) → Matched A B map images → IsSetOf (A .uniq) from → IsSetOf (B .uniq) to
         → IsOrigins rows A origins
         → IsOrigins rows B targets
         → Tells6 rows A B map r

@@ -5,8 +5,6 @@ use mathlib.Core.List.{List, List·Memᴰ}
 use mathlib.Core.Logic.{_↔_}
 use Prim.Native.Nat.{ℕ, _+_, _*_}
 use lib.ListN.{getD}
-use Rattle.terms.specs.declared.TermSet.{TermSet}
-use Rattle.terms.specs.Set.{mem}
 use Rattle.model.specs.Term.{Term}
 use Rattle.model.specs.Subst.{Subst}
 use Rattle.model.specs.Table.{Row, term}
@@ -51,10 +49,6 @@ module _ (rows : List Row) (A B : Skeleton ℕ) (map : List ℕ) where
 
   abbrev pub Tells6 : Bool → Type 0
   Tells6 r = (σ : Subst) → Rule3 source target to σ → (r ≡ true) ↔ Rule6 source target to σ
-
--- the set of the atoms of a list
-pub record IsAtoms (l : List ℕ) (s : TermSet) : Type 0 where
-  pub at : (i : ℕ) → (mem s i ≡ true) ↔ List·Memᴰ i l
 
 -- a byte for each term: 16 * strand + position of the origin of a unique atom
 pub record IsOrigins (rows : List Row) (K : Skeleton ℕ) (origins : List ℕ) : Type 0 where

@@ -8,58 +8,37 @@ ghost use lib.Dec.{eqb};
 ghost use lib.ListN.{length, getD};
 ghost use Rattle.model.specs.Says.{node-of};
 ghost use Rattle.tables.specs.Layout.{term-count, strand-count};
-ghost use Rattle.tables.specs.Tables.{byte, atoms-at, rows-in, skeleton-at, Filled};
+ghost use Rattle.tables.specs.Tables.{byte, rows-in, skeleton-at, Filled};
+ghost use Rattle.tables.specs.Drawn.{Drawn};
 ghost use Rattle.order.specs.Precedence.{on, code, Low, Shows};
 ghost use Rattle.matching.specs.Matches.{Laid};
-ghost use Rattle.maps.specs.Rules.{Tells1, Tells2, Tells4, KeptTo1, KeptTo2, IsAtoms};
-ghost use Rattle.maps.specs.Drawn.{Drawn};
+ghost use Rattle.maps.specs.Rules.{Tells1, Tells2, Tells4, KeptTo1, KeptTo2};
 ghost use Rattle.maps.specs.Strands.{AllBelow, SameDirections, StrandKept, moved-at};
 ghost use Rattle.maps.specs.Images.{IsRow, LooksUp, Ready, Inverses, Imaged};
 ghost use Rattle.maps.specs.Atoms.{Asks, GoesIn, OriginGoes, Judges5, Judges6, Starts};
 use order::is_before;
+use tables::DIRECTIONS;
+use tables::FIRSTS;
+use tables::HEIGHTS;
+use tables::ORDER_COUNT;
+use tables::ORDERS;
+use tables::ROOM;
+use tables::SECONDS;
+use tables::STRAND_COUNT;
+use tables::TERM_COUNT;
+use tables::rows::INVERSE;
+use tables::rows::LONG_TERM;
+use tables::rows::PUBLIC;
+use tables::wide;
 use terms::Node;
 use terms::Strand;
 use terms::Term;
 use terms::TermSet;
 
-// Where the columns of the term table begin, and where its count stands.
-const FIRSTS: usize = 200;
-
-const SECONDS: usize = 400;
-
-const TERM_COUNT: usize = 600;
-
-// The kinds of keys that are made of other terms.
-const PUBLIC: u8 = 7;
-
-const INVERSE: u8 = 8;
-
-const LONG_TERM: u8 = 9;
-
-// Where things lie in a skeleton's block.
-const STRAND_COUNT: usize = 0;
-
-const ORDER_COUNT: usize = 1;
-
-const HEIGHTS: usize = 4;
-
-const DIRECTIONS: usize = 10;
-
-const ORDERS: usize = 202;
-
-// How many nodes a strand has room for.
-const ROOM: usize = 16;
-
 // Whether a term is on the sheet, and its number.
 pub enum Image {
     On(Term),
     Off,
-}
-
-fn wide(b: u8) -> usize
-    ensures { λ r. ⌜ (r ≡ b) × (r ≤ 255) ⌝ }
-{
-    b as usize
 }
 
 // Whether each byte of the map is below n.
@@ -181,18 +160,6 @@ pub fn rule_four(table: &[u8], source: usize, target: usize, map: &[u8], before:
         }
     }
     true
-}
-
-// The set of the terms whose numbers are the `count` bytes from `at` on.
-pub fn atoms(table: &[u8], at: usize, count: u8) -> TermSet
-    requires { ⌜ at + count ≤ length (now table) ⌝ }
-    ensures { λ r. ⌜ IsAtoms (atoms-at count (now (table .entry)) at) r ⌝ }
-{
-    let mut set = TermSet::EMPTY;
-    for j in 0..wide(count) {
-        set = set.with(Term(table[at + j]));
-    }
-    set
 }
 
 // Whether the row i has this kind and these arguments.

@@ -22,11 +22,13 @@ use Rattle.theory.specs.Happenings.{at-means, at-meant}
 use Rattle.theory.specs.Matching.{Wish, Granted}
 use Rattle.tables.specs.Layout.{strand-count, heights, term-count}
 use Rattle.tables.specs.Tables.{byte, rows-in, skeleton-at}
+use Rattle.tables.proofs.Nodes.{at-stands, said-at}
 use Rattle.matching.specs.Matches.{Laid, Takes, Matches}
-use Rattle.matching.specs.Ready.{Ready, Drawn}
+use Rattle.tables.specs.Drawn.{Drawn}
+use Rattle.matching.specs.Ready.{Ready}
 use Rattle.matching.specs.Pass.{and-then, demands, pass, part-wishes, wishes, Blank, Ends}
 use Rattle.matching.proofs.Rows.{count-is}
-use Rattle.matching.proofs.Nodes.{said, event-lies, event-at, source-low, target-low, in-wishes, each-wish}
+use Rattle.matching.proofs.Nodes.{said, event-at, source-low, target-low, in-wishes, each-wish}
 use Rattle.matching.proofs.Occurrences.{part-occurs, goes-down}
 use Rattle.matching.proofs.Decided.{Posed, outcome, asked-low, args-low, only, has-outcome}
 use Rattle.matching.proofs.Decided.{found, found-takes, found-grants}
@@ -62,8 +64,8 @@ module _ {t inverses : List ℕ} (ready : Ready t inverses) {a b : ℕ} (A : Dra
   find : (c : ℕ) (n : Node) (e : Event Term) → At (means (term rows) (skeleton-at t c)) n e → Found c n e
   find c n e h =
       let (d, i, q) = at-meant (term rows) (skeleton-at t c) h in
-      let l = event-lies t c n d i in
-      let says = ap message (back q) ∙ (message-means (term rows) d ∙ ap (term rows) (l .says)) in
+      let l = at-stands t c i .there in
+      let says = ap message (back q) ∙ (message-means (term rows) d ∙ ap (term rows) (said-at t c i)) in
       record { strand = l .strand; position = l .position; says = says }
 
   grants-takes : (σ : Subst) → Each (Granted rows (ready .good) σ) asked → Takes rows (skeleton-at t a) (skeleton-at t b) map σ

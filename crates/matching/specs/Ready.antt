@@ -4,9 +4,8 @@ use mathlib.Core.List.{List}
 use Prim.Native.Nat.{ℕ, _+_, _<_, _≤_}
 use lib.ListN.{length}
 use Rattle.theory.specs.GoodTable.{Good}
-use Rattle.theory.specs.OnTable.{OnTable}
-use Rattle.tables.specs.Layout.{term-count, block-size, table-size}
-use Rattle.tables.specs.Tables.{byte, rows-in, skeleton-at, Block, Filled}
+use Rattle.tables.specs.Layout.{term-count, table-size}
+use Rattle.tables.specs.Tables.{byte, rows-in, Filled}
 use Rattle.keys.specs.Inverted.{Inverted}
 
 -- the table t of a good sheet, and the number of each term's inverse
@@ -15,12 +14,6 @@ pub record Ready (t inverses : List ℕ) : Type 0 where
   pub good : Good (rows-in t)
   pub inverted : Inverted (rows-in t) inverses
   pub long : length inverses ≡ 200
-
--- a skeleton of the sheet, whose block begins at b
-pub record Drawn (t : List ℕ) (b : ℕ) : Type 0 where
-  pub fits : b + block-size ≤ table-size
-  pub block : Block t b
-  pub on-table : OnTable (rows-in t) (skeleton-at t b)
 
 -- p and u are terms
 pub record Terms (t : List ℕ) (p u : ℕ) : Type 0 where

@@ -9,29 +9,18 @@ ghost use Rattle.matching.specs.Matches.{Laid, Matches};
 ghost use Rattle.matching.specs.Pass.{demands, may-be, first-to, second-wishes, part-wishes};
 ghost use Rattle.matching.specs.Pass.{pass, gather, one-wish, wishes, Blank, Ends};
 ghost use Rattle.matching.specs.Pass;
-ghost use Rattle.matching.specs.Ready.{Ready, Drawn, Terms, Messages};
+ghost use Rattle.tables.specs.Drawn.{Drawn};
+ghost use Rattle.matching.specs.Ready.{Ready, Terms, Messages};
+use tables::FIRSTS;
+use tables::HEIGHTS;
+use tables::MESSAGES;
+use tables::SECONDS;
+use tables::TERM_COUNT;
+use tables::wide;
 use terms::Term;
 
 // The byte of a term that has no image yet.
 const NONE: u8 = 255;
-
-// Where the columns of the term table begin, and where its count stands.
-const FIRSTS: usize = 200;
-
-const SECONDS: usize = 400;
-
-const TERM_COUNT: usize = 600;
-
-// Where things lie in a skeleton's block.
-const HEIGHTS: usize = 4;
-
-const MESSAGES: usize = 106;
-
-fn wide(b: u8) -> usize
-    ensures { λ r. ⌜ (r ≡ b) × (r ≤ 255) ⌝ }
-{
-    b as usize
-}
 
 // No term has an image.
 fn clear(images: &mut [u8])

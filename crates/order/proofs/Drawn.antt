@@ -1,20 +1,19 @@
 -- What a matrix of precedence says of the skeleton whose block begins at b of the table t. Assumes nothing.
 use mathlib.Core.Path.{_≡_, sym, _∙_, ap}
 use mathlib.Core.Bool.{true, true≢false}
-use mathlib.Core.List.{List, [], List·Memᴰ}
+use mathlib.Core.List.{List, List·Memᴰ}
 use mathlib.Core.Logic.{_↔_, _⊎_, ⊎-elim, ⊎-map, inl, inr}
 use Prim.Native.Nat.{ℕ, suc, _+_, _*_, _/_, _%_, _<_, _≤_}
 use native.Mathlib.Omega.{arith}
 use native.Mathlib.Decide.{decLt}
-use lib.ListN.{length}
 use Rattle.model.specs.Skeleton.{Node, Skeleton, height}
 use Rattle.model.specs.Events.{Before, next, listed, chain}
-use Rattle.tables.specs.Layout.{strand-count, order-count, heights, orders}
-use Rattle.tables.specs.Tables.{byte, node-at, trace-at, strands-at, orders-at, skeleton-at, Block}
+use Rattle.tables.specs.Layout.{strand-count, heights}
+use Rattle.tables.specs.Tables.{byte, skeleton-at, Block}
+use Rattle.tables.proofs.Nodes.{height-at, height-out, pair-in, pair-of}
 use Rattle.order.specs.Precedence.{on, code, Low, Shows, Ordered}
 use Rattle.order.specs.Matrix.{EmptyFrom, Adds, Way, step, then, Closed, Looped}
 use Rattle.order.specs.Steps.{Along, Among}
-use Rattle.order.proofs.Listing.{OneOf, length-upto, upto-at, upto-out, upto-has, upto-only}
 
 -- the node of a number
 abbrev node : ℕ → Node
@@ -55,27 +54,6 @@ cycle-looped {M} {K} {m} shows low = (there, back)
         record { node = code (c .node); row = low-code (c .node) h; own = shows .at (c .node) (c .node) h h .1 (c .cycle) }
 
 module _ (t : List ℕ) (b : ℕ) where
-  height-at : (s : ℕ) → s < byte t (b + strand-count) → height (skeleton-at t b) s ≡ byte t (b + heights + s)
-  unfolding skeleton-at strands-at trace-at
-  height-at s l =
-      ap length (upto-at (byte t (b + strand-count)) (trace-at t b) [] s l) ∙ length-upto (byte t (b + heights + s)) _
-
-  height-out : (s : ℕ) → byte t (b + strand-count) ≤ s → height (skeleton-at t b) s ≡ 0
-  unfolding skeleton-at strands-at
-  height-out s l = ap length (upto-out (byte t (b + strand-count)) (trace-at t b) [] s l)
-
-  -- the OR pair at a place
-  abbrev pair-at : ℕ → Node × Node
-  pair-at i = (node-at t (b + orders + 4 * i), node-at t (b + orders + 4 * i + 2))
-
-  pair-in : (i : ℕ) → i < byte t (b + order-count) → List·Memᴰ (pair-at i) (skeleton-at t b .order)
-  unfolding skeleton-at orders-at
-  pair-in i l = upto-has (byte t (b + order-count)) pair-at i l
-
-  pair-of : {x y : Node} → List·Memᴰ (x, y) (skeleton-at t b .order) → OneOf (byte t (b + order-count)) pair-at (x, y)
-  unfolding skeleton-at orders-at
-  pair-of q = upto-only (byte t (b + order-count)) pair-at q
-
   module _ (block : Block t b) where
     -- strand succession, in the skeleton and in its block
     record Next (s p : ℕ) : Type 0 where
@@ -86,8 +64,8 @@ module _ (t : List ℕ) (b : ℕ) where
     next-of : (s p : ℕ) → suc p < height (skeleton-at t b) s → Next s p
     next-of s p l =
         elim (decLt s (byte t (b + strand-count))) [
-          | yes h ↦ record { strand = h; below = rw (height-at s h) at l; short = block .low s h }
-          | no h ↦ let e = height-out s (omega arith) in absurd (omega arith)
+          | yes h ↦ record { strand = h; below = rw (height-at t b s h) at l; short = block .low s h }
+          | no h ↦ let e = height-out t b s (omega arith) in absurd (omega arith)
         ]
 
     module _ (ordered : Ordered t b) where
@@ -99,7 +77,7 @@ module _ (t : List ℕ) (b : ℕ) where
             record { strand = omega (arith, n .strand); position = omega (arith, n .below, n .short) },
           )
       low (listed q) =
-          let o = pair-of q in (
+          let o = pair-of t b q in (
             rw (ap (λ (w : Node × Node). w .0) (o .is)) (ordered .first (o .index) (o .below)),
             rw (ap (λ (w : Node × Node). w .1) (o .is)) (ordered .second (o .index) (o .below)),
           )
@@ -113,13 +91,13 @@ module _ (t : List ℕ) (b : ℕ) where
           let short = block .low (x / 16) (w .strand) in
           let s : y / 16 ≡ x / 16 = omega (arith, w .next, w .below) in
           let p : y % 16 ≡ suc (x % 16) = omega (arith, w .next, w .below) in
-          rw (s, p) (next {s = x / 16} {p = x % 16} (rw (height-at (x / 16) (w .strand)) (omega (arith, w .below))))
+          rw (s, p) (next {s = x / 16} {p = x % 16} (rw (height-at t b (x / 16) (w .strand)) (omega (arith, w .below))))
 
       among-before : (x y : ℕ) → Among t b x y → Before (skeleton-at t b) (node x) (node y)
       among-before x y w =
           let first = node-code _ (ordered .first (w .index) (w .below)) in
           let second = node-code _ (ordered .second (w .index) (w .below)) in
-          rw (← w .starts, ← w .ends, first, second) (listed (pair-in (w .index) (w .below)))
+          rw (← w .starts, ← w .ends, first, second) (listed (pair-in t b (w .index) (w .below)))
 
       next-along : (s p : ℕ) → Next s p → Along t b (16 * s + p) (16 * s + suc p)
       next-along s p n =
@@ -129,7 +107,7 @@ module _ (t : List ℕ) (b : ℕ) where
 
       listed-among : {x y : Node} → List·Memᴰ (x, y) (skeleton-at t b .order) → Among t b (code x) (code y)
       listed-among q =
-          let o = pair-of q in
+          let o = pair-of t b q in
           record {
             index = o .index;
             below = o .below;

@@ -3,5 +3,4 @@ mod Bits
 mod Rows
 mod Closing
 mod Adding
-mod Listing
 pub mod Drawn

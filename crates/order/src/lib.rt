@@ -12,6 +12,11 @@ ghost use Rattle.tables.specs.Tables.{node-at, skeleton-at, Block, Filled};
 ghost use Rattle.order.specs.Precedence.{on, code, Low, Shows, Ordered};
 ghost use Rattle.order.specs.Matrix.{with-pair, with-row, Empty, EmptyFrom, Adds, Through, Closed, Looped};
 ghost use Rattle.order.specs.Steps.{Along, Among};
+use tables::HEIGHTS;
+use tables::ORDER_COUNT;
+use tables::ORDERS;
+use tables::STRAND_COUNT;
+use tables::wide;
 use terms::Node;
 
 // How many words a matrix takes.
@@ -19,15 +24,6 @@ pub const WORDS: usize = 192;
 
 // How many rows it has.
 const ROWS: usize = 96;
-
-// Where things lie in a skeleton's block.
-const STRAND_COUNT: usize = 0;
-
-const ORDER_COUNT: usize = 1;
-
-const HEIGHTS: usize = 4;
-
-const ORDERS: usize = 202;
 
 // Fills `before` with what comes before what in the skeleton whose block of the table begins at `block`.
 pub fn precedence(table: &[u8], block: usize, before: &mut [u64])
@@ -68,12 +64,6 @@ fn number(n: Node) -> usize
     ensures { λ r. ⌜ (r ≡ code (node-of n)) × (r < 96) ⌝ }
 {
     16 * (n.strand.0 as usize) + n.position as usize
-}
-
-fn wide(b: u8) -> usize
-    ensures { λ r. ⌜ r ≡ b ⌝ }
-{
-    b as usize
 }
 
 // The number of the node whose strand and position are the bytes from `at` on.

@@ -10,8 +10,8 @@ use Rattle.tables.specs.Layout.{heights}
 use Rattle.tables.specs.Tables.{byte, skeleton-at}
 use Rattle.origin.specs.declared.Appears.{Appears}
 use Rattle.origin.specs.Marked.{node, NoneBefore, AppearsAs, nowhere, sent, received}
-use Rattle.origin.specs.Nodes.{direction-at, message-at, There}
-use Rattle.origin.proofs.Nodes.{at-stands, sent-at, received-at, said-at}
+use Rattle.tables.specs.Nodes.{direction-at, message-at, There}
+use Rattle.tables.proofs.Nodes.{at-stands, sent-at, received-at, said-at}
 
 -- no event of strand s before position p is marked
 pub record Unmarked (t : List ℕ) (b : ℕ) (marks : ℕ → Bool) (s p : ℕ) : Type 0 where

@@ -14,9 +14,9 @@ use Rattle.model.specs.Skeleton.{Event, message, Node, At}
 use Rattle.tables.specs.Layout.{strand-count, heights}
 use Rattle.tables.specs.Tables.{byte, skeleton-at, Block}
 use Rattle.origin.specs.Marked.{node, IsMessages}
-use Rattle.origin.specs.Nodes.{message-at, There}
+use Rattle.tables.specs.Nodes.{message-at, There}
 use Rattle.origin.specs.Passing.{Gathered}
-use Rattle.origin.proofs.Nodes.{stands-at, at-stands, said-at, position-low}
+use Rattle.tables.proofs.Nodes.{stands-at, at-stands, said-at, position-low}
 
 either : (a b : Bool) → (a || b) ≡ true → (a ≡ true) ⊎ (b ≡ true)
 either true b e = inl refl

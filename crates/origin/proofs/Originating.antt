@@ -20,7 +20,7 @@ use Rattle.origin.specs.declared.Origins.{Origins}
 use Rattle.origin.specs.declared.Next.{Next}
 use Rattle.origin.specs.Marked.{node, NoneBefore, FirstSent, FirstReceived, AppearsAs, sent, received, OriginatesAs}
 use Rattle.origin.specs.Passing.{NoneFrom, NextIs, here}
-use Rattle.origin.proofs.Nodes.{at-stands, strand-low}
+use Rattle.tables.proofs.Nodes.{at-stands, strand-low}
 
 module _ (K : Skeleton ℕ) (marks : ℕ → Bool) where
   -- a marked event is not before a node before which nothing is marked

@@ -4,27 +4,23 @@ ghost use Prim.Native.Nat.{ℕ, _+_, _<_, _≤_};
 ghost use lib.Dec.{eqb};
 ghost use Rattle.terms.specs.Set.{mem};
 ghost use Rattle.model.specs.Says.{node-of};
-ghost use Rattle.tables.specs.Layout.{strand-count, heights, block-size, table-size};
-ghost use Rattle.tables.specs.Tables.{byte, skeleton-at, Block, Filled};
+ghost use Rattle.tables.specs.Layout.{strand-count, heights};
+ghost use Rattle.tables.specs.Tables.{byte, skeleton-at};
+ghost use Rattle.tables.specs.Nodes.{direction-at, message-at, There};
+ghost use Rattle.tables.specs.Drawn.{Drawn};
 ghost use Rattle.origin.specs.Marked.{node, AppearsAs, OriginatesAs, IsMessages};
-ghost use Rattle.origin.specs.Nodes.{direction-at, message-at, Drawn, There, EventIs};
+ghost use Rattle.origin.specs.Nodes.{EventIs};
 ghost use Rattle.origin.specs.Passing.{Gathered, NextIs};
+use tables::DIRECTIONS;
+use tables::HEIGHTS;
+use tables::MESSAGES;
+use tables::ROOM;
+use tables::STRAND_COUNT;
+use tables::wide;
 use terms::Node;
 use terms::Strand;
 use terms::Term;
 use terms::TermSet;
-
-// Where things lie in a skeleton's block.
-const STRAND_COUNT: usize = 0;
-
-const HEIGHTS: usize = 4;
-
-const DIRECTIONS: usize = 10;
-
-const MESSAGES: usize = 106;
-
-// How many nodes a strand has room for.
-const ROOM: usize = 16;
 
 // How a strand first has a marked message.
 pub enum Appears {
@@ -53,12 +49,6 @@ enum Next {
     Here(Node),
 }
 
-fn wide(b: u8) -> usize
-    ensures { λ r. ⌜ r ≡ b ⌝ }
-{
-    b as usize
-}
-
 // How many events a strand has.
 fn height(table: &[u8], block: usize, strand: Strand) -> u8
     requires { ⌜ Drawn (now table) block × (strand .0 < byte (now table) (block + strand-count)) ⌝ }
@@ -85,7 +75,7 @@ fn is_send(table: &[u8], block: usize, strand: Strand, p: u8) -> bool
 
 // What stands at a node: nothing beyond the strands, and nothing beyond a strand's height.
 pub fn event_is(table: &[u8], block: usize, node: Node) -> At
-    requires { ⌜ Filled (now table) × Block (now table) block × (block + block-size ≤ table-size) ⌝ }
+    requires { ⌜ Drawn (now table) block ⌝ }
     ensures { λ r. ⌜ EventIs (skeleton-at (now (table .entry)) block) (node-of node) r ⌝ }
 {
     let strand = node.strand;
@@ -119,7 +109,7 @@ fn with_strand(table: &[u8], block: usize, set: TermSet, strand: Strand) -> Term
 
 // The messages of all events.
 pub fn messages(table: &[u8], block: usize) -> TermSet
-    requires { ⌜ Filled (now table) × Block (now table) block × (block + block-size ≤ table-size) ⌝ }
+    requires { ⌜ Drawn (now table) block ⌝ }
     ensures { λ r. ⌜ IsMessages (skeleton-at (now (table .entry)) block) r ⌝ }
 {
     let mut all = TermSet::EMPTY;
@@ -132,7 +122,7 @@ pub fn messages(table: &[u8], block: usize) -> TermSet
 
 // How the strand first has a message that is in `marks`.
 pub fn first_marked(table: &[u8], block: usize, marks: TermSet, strand: Strand) -> Appears
-    requires { ⌜ Filled (now table) × Block (now table) block × (block + block-size ≤ table-size) ⌝ }
+    requires { ⌜ Drawn (now table) block ⌝ }
     requires { ⌜ strand .0 < byte (now table) (block + strand-count) ⌝ }
     ensures { λ r. ⌜ AppearsAs (skeleton-at (now (table .entry)) block) (mem marks) (strand .0) r ⌝ }
 {
@@ -150,7 +140,7 @@ pub fn first_marked(table: &[u8], block: usize, marks: TermSet, strand: Strand) 
 
 // The first origin on the strands from `from` on.
 fn next_origin(table: &[u8], block: usize, marks: TermSet, from: u8) -> Next
-    requires { ⌜ Filled (now table) × Block (now table) block × (block + block-size ≤ table-size) ⌝ }
+    requires { ⌜ Drawn (now table) block ⌝ }
     ensures { λ r. ⌜ NextIs (skeleton-at (now (table .entry)) block) (mem marks) from r ⌝ }
 {
     let count = table[block + STRAND_COUNT];
@@ -167,7 +157,7 @@ fn next_origin(table: &[u8], block: usize, marks: TermSet, from: u8) -> Next
 
 // Where a message that is in `marks` originates. It stops at the second strand.
 pub fn find_origins(table: &[u8], block: usize, marks: TermSet) -> Origins
-    requires { ⌜ Filled (now table) × Block (now table) block × (block + block-size ≤ table-size) ⌝ }
+    requires { ⌜ Drawn (now table) block ⌝ }
     ensures { λ r. ⌜ OriginatesAs (skeleton-at (now (table .entry)) block) (mem marks) r ⌝ }
 {
     let Next::Here(node) = next_origin(table, block, marks, 0) else {

@@ -3,23 +3,24 @@ use mathlib.Core.Path.{_≡_, refl, sym, ap}
 use mathlib.Core.Bool.{Bool, true, false, _&&_, true≢false}
 use mathlib.Core.List.{List}
 use mathlib.Core.Logic.{_↔_}
-use Prim.Native.Nat.{ℕ, _+_, _≤_, _<_}
+use Prim.Native.Nat.{ℕ, _≤_, _<_}
 use native.Mathlib.Omega.{arith}
 use lib.Dec.{ltb}
 use lib.ListN.{length, getD}
 use borrow.Author.Tests.{ltb-true, ltb-false}
 use Rattle.model.specs.Table.{Row}
-use Rattle.model.specs.Sheet.{Drawing, meant, HasSkeleton}
+use Rattle.model.specs.Sheet.{Drawing, HasSkeleton}
 use Rattle.model.specs.Skeleton.{recv, Node, At}
 use Rattle.model.specs.Answers.{HasTerms, HasReception, HasReceptionAndTerm}
 use Rattle.theory.specs.Places.{listed-at, stands}
-use Rattle.tables.specs.Layout.{block, block-size, table-size}
-use Rattle.tables.specs.Tables.{byte, rows-in, skeleton-in, sheet-in, Block, Filled}
+use Rattle.tables.specs.Layout.{block, skeleton-count}
+use Rattle.tables.specs.Tables.{byte, rows-in, skeleton-in, sheet-in, Filled}
 use Rattle.order.specs.Precedence.{Low}
-use Rattle.origin.proofs.Nodes.{strand-low, position-low}
-use Rattle.realized.specs.Drawn.{drawing, Drawn, Ordering, Ready}
+use Rattle.tables.proofs.Nodes.{strand-low, position-low}
+use Rattle.tables.specs.Drawn.{drawing, Drawn}
+use Rattle.realized.specs.Ready.{Ordering, Ready}
 use Rattle.accept.specs.Held.{Stored}
-use Rattle.accept.proofs.Lies.{has-skeleton, skeleton-lies}
+use Rattle.accept.proofs.Lies.{has-skeleton, skeleton-lies, is-drawn, is-right}
 use Rattle.theory.specs.GoodTable.{Good}
 use Rattle.theory.specs.Judgement.{Sound}
 use Rattle.carry.specs.Sets.{AreTerms}
@@ -79,39 +80,33 @@ good-rows t s = s .good
 -- Skeletons
 
 module _ (t : List ℕ) (k : ℕ) where
-  pub skeleton-had : Has (HasSkeleton k (sheet-in t)) (drawing t (block k)) (ltb k (byte t 601))
-  skeleton-had = go (ltb k (byte t 601)) refl
+  pub skeleton-had : {r : Bool} → (r ≡ true) ↔ (k < byte t skeleton-count) → Has (HasSkeleton k (sheet-in t)) (drawing t (block k)) r
+  skeleton-had {r} f = go r f
     where
-      go : (x : Bool) → ltb k (byte t 601) ≡ x → Has (HasSkeleton k (sheet-in t)) (drawing t (block k)) x
-      go true e = there (has-skeleton t k (ltb-true k (byte t 601) e))
-      go false e = none (λ D h. omega (arith, skeleton-lies t k D h .inside, ltb-false k (byte t 601) e))
+      go : (x : Bool) → (x ≡ true) ↔ (k < byte t skeleton-count) → Has (HasSkeleton k (sheet-in t)) (drawing t (block k)) x
+      go true f = there (has-skeleton t k (f .0 refl))
+      go false f = none (λ D h. true≢false (sym (f .1 (skeleton-lies t k D h .inside))))
 
-  pub in-table : (b : ℕ) → Filled t → HasSkeleton k (sheet-in t) (drawing t (block k)) → b ≡ block k
-      → Filled t × Block t b × (b + block-size ≤ table-size)
-  in-table b f h e =
-      let l : k < byte t 601 = skeleton-lies t k (drawing t (block k)) h .inside in
-      (f, rw e (f .blocks k l), omega (arith, l, f .skeletons))
+  inside : HasSkeleton k (sheet-in t) (drawing t (block k)) → k < byte t skeleton-count
+  inside h = skeleton-lies t k (drawing t (block k)) h .inside
 
-  -- a skeleton of an accepted sheet is accepted
-  pub is-drawn : {inverses : List ℕ} → Stored t inverses → HasSkeleton k (sheet-in t) (drawing t (block k)) → Drawn t (block k)
-  unfolding meant
-  is-drawn s h =
-      let (f, b, l) = in-table (block k) (s .filled) h refl in
-      record {
-        filled = f;
-        good = good-rows t (s .sound);
-        within = l;
-        block = b;
-        on-table = s .sound .drawings k (drawing t (block k)) h;
-        rules = s .sound .skeletons k (drawing t (block k)) h;
-      }
+  -- a skeleton of an accepted sheet
+  pub drawn-there : Filled t → Sound (sheet-in t) → HasSkeleton k (sheet-in t) (drawing t (block k)) → Drawn t (block k)
+  drawn-there f s h = is-drawn t f s k (inside h)
 
   -- all that a question about it needs, the matrix filled
   pub is-ready : {inverses before : List ℕ} (b : ℕ) → Stored t inverses → HasSkeleton k (sheet-in t) (drawing t (block k))
       → b ≡ block k
       → Ordering t (block k) before
       → Ready t b inverses before
-  is-ready b s h e o = rw e (record { drawn = is-drawn s h; ordering = o; inverted = s .inverted; many = s .inverses-long })
+  is-ready b s h e o =
+      rw e (record {
+        drawn = drawn-there (s .filled) (s .sound) h;
+        rules = is-right t (s .filled) (s .sound) k (inside h);
+        ordering = o;
+        inverted = s .inverted;
+        many = s .inverses-long;
+      })
 
   -- Receptions
 

@@ -12,7 +12,8 @@ ghost use Rattle.model.specs.Says.{node-of, refusal-of, yes-no-says, realized-s
 ghost use Rattle.theory.specs.Judgement.{Sound};
 ghost use Rattle.tables.specs.Layout.{block};
 ghost use Rattle.tables.specs.Tables.{rows-in, sheet-in, Filled};
-ghost use Rattle.realized.specs.Drawn.{drawing, Drawn, Ordering};
+ghost use Rattle.tables.specs.Drawn.{drawing, Drawn};
+ghost use Rattle.realized.specs.Ready.{Ordering};
 ghost use Rattle.accept.specs.Held.{Stored};
 ghost use Rattle.questions.specs.Subject.{Has, AllBelow, openness};
 use model::ReachAnswer;
@@ -26,17 +27,11 @@ use realized::Open;
 use realized::count_reached;
 use realized::first_open;
 use realized::reached_before;
+use tables::TERM_COUNT;
+use tables::blocks::block_of;
+use tables::blocks::has_skeleton;
 use terms::Node;
 use terms::Term;
-
-// Where the counts of terms and skeletons stand in the table, and where the skeletons' blocks begin; the size of a block.
-const TERM_COUNT: usize = 600;
-
-const SKELETON_COUNT: usize = 601;
-
-const BLOCKS: usize = 602;
-
-const BLOCK: usize = 522;
 
 // "15: no such skeleton, term, or reception asked for"
 fn no_such() -> Refusal
@@ -92,22 +87,6 @@ pub fn within(table: &[u8], t: Term, inside: Term, set: &[u8]) -> YesNo
     yes_or_no(carry::within(table, t, inside, set))
 }
 
-// Where the block of a skeleton begins.
-fn block_of(skeleton: u8) -> usize
-    ensures { λ r. ⌜ r ≡ block skeleton ⌝ }
-{
-    BLOCKS + BLOCK * (skeleton as usize)
-}
-
-// Whether the sheet has the skeleton.
-fn has_skeleton(table: &[u8], skeleton: u8) -> bool
-    requires { ⌜ Filled (now table) ⌝ }
-    ensures { λ r. ⌜ Has (HasSkeleton skeleton (sheet-in (now (table .entry))))
-        (drawing (now (table .entry)) (block skeleton)) r ⌝ }
-{
-    skeleton < table[SKELETON_COUNT]
-}
-
 // Fills the matrix of a skeleton, and says where the skeleton's block begins.
 fn prepare(table: &[u8], before: &mut [u64], skeleton: u8) -> usize
     requires { ⌜ Drawn (now table) (block skeleton) × (length (now before) ≡ 192) ⌝ }
@@ -141,7 +120,7 @@ pub fn realized(table: &[u8], inverses: &[u8], before: &mut [u64], skeleton: u8)
 
 // Whether the sheet has the skeleton, and the skeleton a reception at the node.
 fn has_reception(table: &[u8], skeleton: u8, node: Node) -> bool
-    requires { ⌜ Filled (now table) ⌝ }
+    requires { ⌜ Filled (now table) × Sound (sheet-in (now table)) ⌝ }
     ensures { λ r. ⌜ Has (HasReception skeleton (node-of node) (sheet-in (now (table .entry))))
         (drawing (now (table .entry)) (block skeleton)) r ⌝ }
 {
@@ -157,7 +136,7 @@ fn has_reception(table: &[u8], skeleton: u8, node: Node) -> bool
 
 // The same, and the sheet the term.
 fn has_reception_and_term(table: &[u8], skeleton: u8, node: Node, term: Term) -> bool
-    requires { ⌜ Filled (now table) ⌝ }
+    requires { ⌜ Filled (now table) × Sound (sheet-in (now table)) ⌝ }
     ensures { λ r. ⌜ Has (HasReceptionAndTerm skeleton (node-of node) (term .0) (sheet-in (now (table .entry))))
         (drawing (now (table .entry)) (block skeleton)) r ⌝ }
 {

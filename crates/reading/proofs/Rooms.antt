@@ -11,7 +11,7 @@ use Rattle.model.specs.Reading.{edition, term, begin, strand, order, non, uniq,
 use Rattle.tables.specs.Layout.{skeleton-count, block, strand-count, order-count, non-count, uniq-count}
 use Rattle.tables.specs.Stores.{HasRoom}
 use Rattle.tables.specs.Tables.{Filled, skeleton-at, byte}
-use Rattle.tables.proofs.Upto.{length-upto}
+use Rattle.theory.specs.Upto.{length-upto}
 use Rattle.tables.proofs.Look.{length-rows, length-strands, length-orders, length-nons, length-uniqs, length-drawn}
 use Rattle.records.specs.Marks.{the-mark}
 use Rattle.records.specs.Said.{record-of, Whole}

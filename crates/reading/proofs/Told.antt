@@ -12,7 +12,7 @@ use Rattle.model.specs.Lists.{upto, every}
 use Rattle.model.specs.Limits.{most-nons, most-uniqs}
 use Rattle.model.specs.Table.{Row}
 use Rattle.model.specs.Reading.{State, in-work, on-sheet, Mark, BS, TM, SK, ST, OR, NO, UO, EN, mark-bytes, may-follow, Record, edition, term, begin, strand, order, non, uniq, end, Said, refuse, says, check, need, read-BS, read-row, read-TM, read-SK, event-right, event-in, read-ST, event-at, sends, receives, read-OR, an-atom, read-atom, read-as, marked-as, read-record}
-use Rattle.tables.proofs.Upto.{length-upto}
+use Rattle.theory.specs.Upto.{length-upto}
 use Rattle.model.specs.Skeleton.{Node}
 use Rattle.tables.specs.Rows.{row-of, kind-of, by-kinds}
 use Rattle.tables.specs.declared.rows.Row as TableRow

@@ -1,24 +1,19 @@
 -- A number more in a set, and the members of a list. Assumes nothing.
-use mathlib.Core.Path.{_≡_, refl, sym, _∙_}
-use mathlib.Core.Bool.{Bool, true, false, true≢false, _||_}
+use mathlib.Core.Path.{_≡_, sym, _∙_}
+use mathlib.Core.Bool.{false, true≢false, _||_}
 use mathlib.Core.List.{List, [], _∷_, _++_, List·Memᴰ·head, List·Memᴰ·not-nil, List·Memᴰ·eq-of-singleton, List·Memᴰ·append-cases, Memᴰ·append-left, Memᴰ·append-right}
-use mathlib.Core.Logic.{_↔_, _⊎_, inl, inr, ⊎-elim, ⊎-map}
+use mathlib.Core.Logic.{inl, inr, ⊎-elim, ⊎-map}
 use Prim.Native.Nat.{ℕ, _+_}
 use lib.Dec.{eqb}
-use borrow.Author.Tests.{eq-eqb, eqb-true}
 use native.Mathlib.Numerals.{add-one}
 use Rattle.terms.specs.declared.TermSet.{TermSet}
 use Rattle.terms.specs.Set.{mem}
+use Rattle.terms.proofs.Listed.{with-iff}
 use Rattle.model.specs.Lists.{upto}
 use Rattle.tables.specs.Layout.{non-count, uniq-count, nons, uniqs}
 use Rattle.tables.specs.Tables.{byte, atoms-at, skeleton-at}
 use Rattle.realized.specs.Before.{IsWithheld}
 use Rattle.realized.specs.Passing.{Joined}
-
--- a set with t in it too
-pub with-iff : (s : Bool) {r : Bool} (k t : ℕ) → r ≡ (s || eqb k t) → (r ≡ true) ↔ ((s ≡ true) ⊎ (k ≡ t))
-with-iff true k t e = (λ h. inl refl, λ h. e)
-with-iff false k t e = (λ h. inr (eqb-true k t (sym e ∙ h)), ⊎-elim (λ h. absurd (true≢false (sym h))) (λ h. e ∙ eq-eqb k t h))
 
 module _ {set : TermSet} where
   pub joined-none : Joined [] set set

@@ -21,11 +21,11 @@ use Rattle.theory.specs.Answering.{only-reception, no-reception}
 use Rattle.tables.specs.Layout.{strand-count, heights}
 use Rattle.tables.specs.Tables.{byte, rows-in, skeleton-at}
 use Rattle.origin.specs.Marked.{node}
-use Rattle.origin.proofs.Nodes.{at-stands}
+use Rattle.tables.proofs.Nodes.{at-stands}
 use Rattle.realized.specs.declared.Open.{Open}
 use Rattle.realized.specs.declared.OnStrand.{OnStrand}
 use Rattle.realized.specs.Before.{IsReached}
-use Rattle.realized.specs.Drawn.{drawing, Drawn}
+use Rattle.tables.specs.Drawn.{drawing, Drawn}
 use Rattle.realized.specs.Opening.{Met, OpenIs, unmet, met, OpenOn, nowhere, here, FirstOpenIs, none, first}
 
 -- A node

@@ -20,10 +20,10 @@ use Rattle.origin.specs.declared.At as Answer
 use Rattle.origin.specs.Marked.{node}
 use Rattle.origin.specs.Nodes.{EventIs, nothing, sends, receives}
 use Rattle.origin.proofs.At.{the-type}
-use Rattle.origin.proofs.Nodes.{at-stands, position-low}
+use Rattle.tables.proofs.Nodes.{at-stands, position-low}
 use Rattle.realized.specs.Before.{IsSent}
 use Rattle.realized.specs.Passing.{Sends, Takes, Gathered}
-use Rattle.realized.proofs.Joining.{with-iff}
+use Rattle.terms.proofs.Listed.{with-iff}
 
 -- What the answer says of sends
 

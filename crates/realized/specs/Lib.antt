@@ -1,5 +1,5 @@
 -- What the contracts of `realized` cite.
 pub mod Before
-pub mod Drawn
+pub mod Ready
 pub mod Passing
 pub mod Opening

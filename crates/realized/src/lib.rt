@@ -9,30 +9,25 @@ ghost use Rattle.tables.specs.Layout.{strand-count, heights};
 ghost use Rattle.tables.specs.Tables.{byte, atoms-at, skeleton-at};
 ghost use Rattle.order.specs.Precedence.{Low};
 ghost use Rattle.realized.specs.Before.{IsSent, IsWithheld, IsReached};
-ghost use Rattle.realized.specs.Drawn.{drawing, Drawn, Ordering, Ready};
+ghost use Rattle.tables.specs.Drawn.{drawing, Drawn};
+ghost use Rattle.realized.specs.Ready.{Ordering, Ready};
 ghost use Rattle.realized.specs.Passing.{Takes, Gathered, Joined};
 ghost use Rattle.realized.specs.Opening.{OpenIs, OpenOn, FirstOpenIs};
 use order::is_before;
 use origin::At;
 use origin::event_is;
 use stranger::reach;
+use tables::HEIGHTS;
+use tables::NON_COUNT;
+use tables::NONS;
+use tables::STRAND_COUNT;
+use tables::UNIQ_COUNT;
+use tables::UNIQS;
+use tables::wide;
 use terms::Node;
 use terms::Strand;
 use terms::Term;
 use terms::TermSet;
-
-// Where things lie in a skeleton's block.
-const STRAND_COUNT: usize = 0;
-
-const NON_COUNT: usize = 2;
-
-const UNIQ_COUNT: usize = 3;
-
-const HEIGHTS: usize = 4;
-
-const NONS: usize = 458;
-
-const UNIQS: usize = 490;
 
 // The first open reception of a skeleton.
 pub enum Open {
@@ -44,12 +39,6 @@ pub enum Open {
 enum OnStrand {
     Nowhere,
     Here(u8),
-}
-
-fn wide(b: u8) -> usize
-    ensures { λ r. ⌜ r ≡ b ⌝ }
-{
-    b as usize
 }
 
 // How many events a strand has.

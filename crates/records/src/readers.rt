@@ -14,13 +14,13 @@ ghost use Rattle.tables.specs.Layout.{skeleton-count};
 ghost use Rattle.tables.specs.Tables.{byte, rows-in, skeleton-in, Filled};
 ghost use Rattle.tables.specs.Stores.{event-said};
 ghost use Rattle.records.specs.Said.{record-of, Reads};
-use tables::HEIGHT;
-use tables::NONS;
-use tables::ORDERS;
-use tables::SKELETONS;
-use tables::STRANDS;
-use tables::TERMS;
-use tables::UNIQS;
+use tables::MOST_HEIGHT;
+use tables::MOST_NONS;
+use tables::MOST_ORDERS;
+use tables::MOST_SKELETONS;
+use tables::MOST_STRANDS;
+use tables::MOST_TERMS;
+use tables::MOST_UNIQS;
 use tables::blocks::Event;
 use tables::blocks::RECEIVE;
 use tables::blocks::event_at;
@@ -109,7 +109,7 @@ pub fn read_term(table: &[u8], rest: &[u8]) -> Answer
     requires { ⌜ Filled (now table) ⌝ }
     ensures { λ r. ⌜ Reads r (now (rest .entry)) (read-TM (rows-in (now (table .entry))) (now (rest .entry))) ⌝ }
 {
-    if TERMS <= terms_in(table) {
+    if MOST_TERMS <= terms_in(table) {
         return Answer::Refused(4);
     }
     if rest.len() < 5 {
@@ -127,7 +127,7 @@ pub fn read_term(table: &[u8], rest: &[u8]) -> Answer
 pub fn read_begin(skeletons: usize) -> Answer
     ensures { λ r. ⌜ ((rest : List ℕ) → Reads r rest (read-SK skeletons)) ⌝ }
 {
-    if SKELETONS <= skeletons {
+    if MOST_SKELETONS <= skeletons {
         return Answer::Refused(4);
     }
     Answer::Good(Record::Begin)
@@ -157,7 +157,7 @@ fn events_right(terms: usize, height: usize, rest: &[u8]) -> bool
 pub fn read_strand(terms: usize, strands: usize, rest: &[u8]) -> Answer
     ensures { λ r. ⌜ Reads r (now (rest .entry)) (read-ST terms strands (now (rest .entry))) ⌝ }
 {
-    if STRANDS <= strands {
+    if MOST_STRANDS <= strands {
         return Answer::Refused(4);
     }
     if rest.len() < 3 {
@@ -168,7 +168,7 @@ pub fn read_strand(terms: usize, strands: usize, rest: &[u8]) -> Answer
     if n < 1 {
         return Answer::Refused(4);
     }
-    if HEIGHT < n {
+    if MOST_HEIGHT < n {
         return Answer::Refused(4);
     }
     if rest.len() < 3 + 2 * n {
@@ -205,7 +205,7 @@ pub fn read_order(table: &[u8], k: usize, rest: &[u8]) -> Answer
     requires { ⌜ Filled (now table) × (k < byte (now table) skeleton-count) ⌝ }
     ensures { λ r. ⌜ Reads r (now (rest .entry)) (read-OR (skeleton-in (now (table .entry)) k) (now (rest .entry))) ⌝ }
 {
-    if ORDERS <= orders_in(table, k) {
+    if MOST_ORDERS <= orders_in(table, k) {
         return Answer::Refused(4);
     }
     if rest.len() < 6 {
@@ -231,7 +231,7 @@ pub fn read_non(table: &[u8], nons: usize, rest: &[u8]) -> Answer
     ensures { λ r. ⌜ Reads r (now (rest .entry))
         (read-atom most-nons Reading.non (rows-in (now (table .entry))) nons (now (rest .entry))) ⌝ }
 {
-    if NONS <= nons {
+    if MOST_NONS <= nons {
         return Answer::Refused(4);
     }
     if rest.len() < 3 {
@@ -249,7 +249,7 @@ pub fn read_uniq(table: &[u8], uniqs: usize, rest: &[u8]) -> Answer
     ensures { λ r. ⌜ Reads r (now (rest .entry))
         (read-atom most-uniqs Reading.uniq (rows-in (now (table .entry))) uniqs (now (rest .entry))) ⌝ }
 {
-    if UNIQS <= uniqs {
+    if MOST_UNIQS <= uniqs {
         return Answer::Refused(4);
     }
     if rest.len() < 3 {

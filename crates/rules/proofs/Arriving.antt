@@ -11,7 +11,7 @@ use Rattle.theory.specs.Skeletons.{at-one}
 use Rattle.tables.specs.Layout.{heights}
 use Rattle.tables.specs.Tables.{byte, skeleton-at}
 use Rattle.origin.specs.Marked.{node}
-use Rattle.origin.proofs.Nodes.{at-stands}
+use Rattle.tables.proofs.Nodes.{at-stands}
 use Rattle.order.specs.Precedence.{on, code}
 use Rattle.rules.specs.Judged.{After, ArriveAs, ArrivesAs}
 

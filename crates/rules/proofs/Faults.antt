@@ -16,7 +16,8 @@ use Rattle.order.specs.Precedence.{Shows, Ordered}
 use Rattle.order.specs.Matrix.{Looped}
 use Rattle.order.proofs.Drawn.{cycle-looped, before-low}
 use Rattle.rules.specs.declared.Fault.{Fault}
-use Rattle.rules.specs.Judged.{drawing-at, Ready, NonAs, UniqAs, UniqsTurn, NonsAs, UniqsAs, JudgedAs}
+use Rattle.tables.specs.Drawn.{drawing, Drawn}
+use Rattle.rules.specs.Judged.{NonAs, UniqAs, UniqsTurn, NonsAs, UniqsAs, JudgedAs}
 use Rattle.rules.proofs.Listed.{Passed, passed-all}
 
 module _ {D : Drawing} {a : ℕ} where
@@ -56,13 +57,13 @@ module _ {D : Drawing} {a : ℕ} where
 
 -- All atoms are passed
 
-module _ {t : List ℕ} {b i : ℕ} (ready : Ready t b) where
-  pub nons-fine : Passed (NonRight (drawing-at t b)) (skeleton-at t b .non) i → byte t 600 ≤ i
-      → NonsAs (drawing-at t b) Fault.Nothing
+module _ {t : List ℕ} {b i : ℕ} (ready : Drawn t b) where
+  pub nons-fine : Passed (NonRight (drawing t b)) (skeleton-at t b .non) i → byte t 600 ≤ i
+      → NonsAs (drawing t b) Fault.Nothing
   nons-fine w l = NonsAs.right (passed-all w (ready .on-table .nons) (rw (rows-length t) l))
 
-  pub uniqs-fine : Passed (UniqRight (drawing-at t b)) (skeleton-at t b .uniq) i → byte t 600 ≤ i
-      → UniqsAs (drawing-at t b) Fault.Nothing
+  pub uniqs-fine : Passed (UniqRight (drawing t b)) (skeleton-at t b .uniq) i → byte t 600 ≤ i
+      → UniqsAs (drawing t b) Fault.Nothing
   uniqs-fine w l = UniqsAs.right (passed-all w (ready .on-table .uniqs) (rw (rows-length t) l))
 
 -- The whole skeleton
@@ -79,8 +80,8 @@ module _ {D : Drawing} where
   uniqs-judged turn (UniqsAs.faulty f) = JudgedAs.faulty f
 
 -- precedence has a cycle where the matrix has one
-module _ {t : List ℕ} {b : ℕ} {m : List ℕ} (ready : Ready t b) (ordered : Ordered t b) (shows : Shows (skeleton-at t b) m) where
-  cycle-iff : Looped m ↔ Cyclic (meant (drawing-at t b))
+module _ {t : List ℕ} {b : ℕ} {m : List ℕ} (ready : Drawn t b) (ordered : Ordered t b) (shows : Shows (skeleton-at t b) m) where
+  cycle-iff : Looped m ↔ Cyclic (meant (drawing t b))
   unfolding meant
   cycle-iff =
       Iff·trans (cycle-looped shows (before-low t b (ready .block) ordered)) (
@@ -88,8 +89,8 @@ module _ {t : List ℕ} {b : ℕ} {m : List ℕ} (ready : Ready t b) (ordered : 
         λ c. record { node = c .node; cycle = before-meant (term (rows-in t)) (skeleton-at t b) (c .cycle) },
       )
 
-  pub a-cycle : {r : Bool} → (r ≡ true) ↔ Looped m → r ≡ true → JudgedAs (drawing-at t b) (Fault.Found 10 0)
+  pub a-cycle : {r : Bool} → (r ≡ true) ↔ Looped m → r ≡ true → JudgedAs (drawing t b) (Fault.Found 10 0)
   a-cycle w e = JudgedAs.faulty (Accepting.Fault.a-cycle (cycle-iff .0 (w .0 e)))
 
-  pub no-cycle : {r : Bool} → (r ≡ true) ↔ Looped m → r ≡ false → ¬ Cyclic (meant (drawing-at t b))
+  pub no-cycle : {r : Bool} → (r ≡ true) ↔ Looped m → r ≡ false → ¬ Cyclic (meant (drawing t b))
   no-cycle w e c = true≢false (sym (w .1 (cycle-iff .1 c)) ∙ e)

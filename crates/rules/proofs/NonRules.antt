@@ -17,7 +17,8 @@ use Rattle.theory.specs.Deciding.{Below, dec-below}
 use Rattle.tables.specs.Tables.{byte, rows-in, skeleton-at}
 use Rattle.carry.specs.Sets.{EndsBy, IsParts}
 use Rattle.carry.proofs.Rows.{inside-in}
-use Rattle.rules.specs.Judged.{drawing-at, Ready, Heard, MissingAs, NonAs, NonDue}
+use Rattle.tables.specs.Drawn.{drawing, Drawn}
+use Rattle.rules.specs.Judged.{Heard, MissingAs, NonAs, NonDue}
 use Rattle.rules.proofs.Transfer.{bool-false, carried-iff, lost-iff}
 
 true-test : (b : Bool) → Dec (b ≡ true)
@@ -90,8 +91,8 @@ module _ (t : List ℕ) (a : ℕ) where
 -- The refusal that the atom is due
 
 module _ {t : List ℕ} {C H X : TermSet} {a : ℕ} (inside : a < byte t 600) where
-  is-carried : (b : ℕ) → Ready t b → Heard t b C H X
-      → (mem C a ≡ true) ↔ Carried (meant (drawing-at t b)) (term (rows-in t) a)
+  is-carried : (b : ℕ) → Drawn t b → Heard t b C H X
+      → (mem C a ≡ true) ↔ Carried (meant (drawing t b)) (term (rows-in t) a)
   unfolding meant
   is-carried b ready heard =
       carried-iff (rows-in t) (ready .good) (skeleton-at t b) (ready .on-table) a (inside-in t inside) C (heard .said)

@@ -26,9 +26,10 @@ use Rattle.carry.specs.Sets.{IsCarriers}
 use Rattle.origin.specs.declared.Origins.{Origins}
 use Rattle.origin.proofs.Origins.{the-type}
 use Rattle.origin.specs.Marked.{FirstSent, OriginatesAs}
-use Rattle.origin.proofs.Nodes.{at-stands, strand-low, position-low}
+use Rattle.tables.proofs.Nodes.{at-stands, strand-low, position-low}
 use Rattle.order.specs.Precedence.{on, code, Low, Shows}
-use Rattle.rules.specs.Judged.{drawing-at, Ready, UniqAs, ArrivesAs}
+use Rattle.tables.specs.Drawn.{drawing, Drawn}
+use Rattle.rules.specs.Judged.{UniqAs, ArrivesAs}
 use Rattle.rules.proofs.Transfer.{origin-iff}
 
 -- the skeleton of the block at b, with terms in place of their numbers
@@ -43,7 +44,7 @@ module _ {K : Skeleton ℕ} {marks : ℕ → Bool} {n : Code.Node} where
   alone : OriginatesAs K marks (Origins.At n) → (m : Node) → FirstSent K marks m → m ≡ node-of n
   alone (OriginatesAs.at f only) = only
 
-module _ {t : List ℕ} {b : ℕ} (ready : Ready t b) where
+module _ {t : List ℕ} {b : ℕ} (ready : Drawn t b) where
   -- nodes with events have rows in a matrix
   low-at : {n : Node} {e : Event ℕ} → At (skeleton-at t b) n e → Low n
   low-at a = record { strand = strand-low (ready .block) a; position = position-low (ready .block) a }
@@ -54,7 +55,7 @@ module _ {t : List ℕ} {b : ℕ} (ready : Ready t b) where
 
     -- an answer that is not `At` says that there is not one strand
     pub not-one-strand : (r : Origins) → OneOf (0 ∷ 2 ∷ []) (tagOf the-type r) → OriginatesAs (skeleton-at t b) (mem C) r
-        → UniqAs (drawing-at t b) a 12
+        → UniqAs (drawing t b) a 12
     unfolding meant
     not-one-strand r k (OriginatesAs.nowhere none) = UniqAs.not-one (λ o. none _ (same _ .1 (o .originates .origin)))
     not-one-strand r k (OriginatesAs.at f only) = ⊎-elim (λ e. absurd (omega arith)) (λ e. absurd (omega arith)) k
@@ -84,7 +85,7 @@ module _ {t : List ℕ} {b : ℕ} (ready : Ready t b) where
             (before-means (term (rows-in t)) (skeleton-at t b), before-meant (term (rows-in t)) (skeleton-at t b))
 
         pub too-early : {s : ℕ} {r : Bool} → ArrivesAs (skeleton-at t b) (mem C) g (node-of n) s r → not r ≡ true
-            → UniqAs (drawing-at t b) a 13
+            → UniqAs (drawing t b) a 13
         unfolding meant on-message
         too-early (ArrivesAs.all f) e = absurd (true≢false (sym e))
         too-early (ArrivesAs.one-early {m} {u} d marked off) e =
@@ -111,6 +112,6 @@ module _ {t : List ℕ} {b : ℕ} (ready : Ready t b) where
             w .not-after (rw source (comes-before (low-at at) .0 (f (w .node) u (at-stands t b at .there .strand) at marked)))
 
         pub on-time : {r : Bool} → ArrivesAs (skeleton-at t b) (mem C) g (node-of n) (byte t (b + strand-count)) r
-            → not r ≡ false → UniqAs (drawing-at t b) a 0
+            → not r ≡ false → UniqAs (drawing t b) a 0
         unfolding meant
         on-time w e = UniqAs.fine (record { one-strand = one-strand o; in-time = in-time w e })

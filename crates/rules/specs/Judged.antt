@@ -3,34 +3,19 @@ use mathlib.Core.Path.{_≡_}
 use mathlib.Core.Bool.{Bool, true, false}
 use mathlib.Core.List.{List, List·Memᴰ}
 use mathlib.Core.Logic.{_↔_}
-use Prim.Native.Nat.{ℕ, _+_, _≤_, _<_}
+use Prim.Native.Nat.{ℕ, _<_}
 use Rattle.terms.specs.declared.TermSet.{TermSet}
-use Rattle.terms.specs.Set.{mem}
 use Rattle.model.specs.Table.{term}
 use Rattle.model.specs.Skeleton.{Node, recv, Skeleton, At}
 use Rattle.model.specs.Sheet.{Drawing, meant}
 use Rattle.model.specs.Accepting.{Cyclic, Carried, Missing, Early, OneStrand, NonRight, UniqRight}
 use Rattle.model.specs.Accepting as Accepting
-use Rattle.theory.specs.GoodTable.{Good}
-use Rattle.theory.specs.OnTable.{OnTable}
-use Rattle.tables.specs.Layout.{table-size, block-size}
-use Rattle.tables.specs.Tables.{rows-in, skeleton-at, Block, Filled}
+use Rattle.tables.specs.Tables.{rows-in, skeleton-at}
+use Rattle.tables.specs.Drawn.{drawing, Drawn}
 use Rattle.carry.specs.Sets.{IsCarried, IsParts, IsVariables}
 use Rattle.origin.specs.Marked.{IsMessages}
 use Rattle.order.specs.Precedence.{on, code}
 use Rattle.rules.specs.declared.Fault.{Fault}
-
--- the terms of a table and the skeleton of the block at b
-abbrev pub drawing-at : List ℕ → ℕ → Drawing
-drawing-at t b = record { rows = rows-in t; skeleton = skeleton-at t b }
-
--- the block at b holds a skeleton on a good table
-pub record Ready (t : List ℕ) (b : ℕ) : Type 0 where
-  pub filled : Filled t
-  pub good : Good (rows-in t)
-  pub inside : b + block-size ≤ table-size
-  pub block : Block t b
-  pub on-table : OnTable (rows-in t) (skeleton-at t b)
 
 -- what the messages of the events carry, what occurs in them, and the variables of the table
 pub record Heard (t : List ℕ) (b : ℕ) (C H X : TermSet) : Type 0 where
@@ -39,10 +24,6 @@ pub record Heard (t : List ℕ) (b : ℕ) (C H X : TermSet) : Type 0 where
   pub carried : IsCarried (rows-in t) said C
   pub heard : IsParts (rows-in t) said H
   pub variables : IsVariables (rows-in t) X
-
--- the set of the atoms of a list
-pub record IsAtoms (l : List ℕ) (s : TermSet) : Type 0 where
-  pub at : (i : ℕ) → (mem s i ≡ true) ↔ List·Memᴰ i l
 
 module _ (D : Drawing) where
   -- the refusal that a NO atom is due, 0 for none
@@ -78,11 +59,11 @@ module _ (D : Drawing) where
 -- What an answer about the term a says, of each skeleton of the table t that the sets belong to
 module _ (t : List ℕ) where
   pub record MissingAs (H X : TermSet) (a : ℕ) (r : Bool) : Type 0 where
-    pub at : (b : ℕ) (C : TermSet) → Ready t b → Heard t b C H X
-        → (r ≡ true) ↔ Missing (meant (drawing-at t b)) (term (rows-in t) a)
+    pub at : (b : ℕ) (C : TermSet) → Drawn t b → Heard t b C H X
+        → (r ≡ true) ↔ Missing (meant (drawing t b)) (term (rows-in t) a)
 
   pub record NonDue (C H X : TermSet) (a r : ℕ) : Type 0 where
-    pub at : (b : ℕ) → Ready t b → Heard t b C H X → NonAs (drawing-at t b) a r
+    pub at : (b : ℕ) → Drawn t b → Heard t b C H X → NonAs (drawing t b) a r
 
 -- whether every reception with a marked message comes after the node
 module _ (K : Skeleton ℕ) (marks : ℕ → Bool) (before : List ℕ) (n : Node) where

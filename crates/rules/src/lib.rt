@@ -2,7 +2,7 @@
 ghost use mathlib.Core.Path.{_≡_};
 ghost use Prim.Native.Nat.{ℕ, _+_, _<_, _≤_};
 ghost use lib.ListN.{length};
-ghost use Rattle.terms.specs.Set.{mem};
+ghost use Rattle.terms.specs.Set.{mem, IsSetOf};
 ghost use Rattle.model.specs.Says.{node-of};
 ghost use Rattle.model.specs.Sheet.{meant};
 ghost use Rattle.model.specs.Accepting.{Cyclic};
@@ -10,10 +10,20 @@ ghost use Rattle.theory.specs.GoodTable.{Good};
 ghost use Rattle.tables.specs.Layout.{strand-count, block-size, table-size};
 ghost use Rattle.tables.specs.Tables.{byte, rows-in, atoms-at, skeleton-at, Filled, Block};
 ghost use Rattle.order.specs.Precedence.{Low, Shows, Ordered};
-ghost use Rattle.rules.specs.Judged.{drawing-at, Ready, IsAtoms, MissingAs, NonDue, NonsAs, ArriveAs, ArrivesAs};
+ghost use Rattle.tables.specs.Drawn.{drawing, Drawn};
+ghost use Rattle.rules.specs.Judged.{MissingAs, NonDue, NonsAs, ArriveAs, ArrivesAs};
 ghost use Rattle.rules.specs.Judged.{UniqAs, UniqsTurn, UniqsAs, JudgedAs};
 use origin::At;
 use origin::Origins;
+use tables::HEIGHTS;
+use tables::NON_COUNT;
+use tables::NONS;
+use tables::STRAND_COUNT;
+use tables::TERM_COUNT;
+use tables::UNIQ_COUNT;
+use tables::UNIQS;
+use tables::blocks::atoms;
+use tables::wide;
 use terms::Node;
 use terms::Strand;
 use terms::Term;
@@ -24,40 +34,6 @@ pub enum Fault {
     Nothing,
     // The refusal's number and its place.
     Found { number: u8, place: u8 },
-}
-
-// Where the count of terms stands in a table.
-const TERM_COUNT: usize = 600;
-
-// Where things lie in a skeleton's block.
-const STRAND_COUNT: usize = 0;
-
-const NON_COUNT: usize = 2;
-
-const UNIQ_COUNT: usize = 3;
-
-const HEIGHTS: usize = 4;
-
-const NONS: usize = 458;
-
-const UNIQS: usize = 490;
-
-fn wide(b: u8) -> usize
-    ensures { λ r. ⌜ r ≡ b ⌝ }
-{
-    b as usize
-}
-
-// The set of the `count` atoms whose bytes begin at `at`.
-pub fn atoms(table: &[u8], at: usize, count: u8) -> TermSet
-    requires { ⌜ at + count ≤ length (now table) ⌝ }
-    ensures { λ r. ⌜ IsAtoms (atoms-at count (now (table .entry)) at) r ⌝ }
-{
-    let mut set = TermSet::EMPTY;
-    for j in 0..count {
-        set = set.with(Term(table[at + wide(j)]));
-    }
-    set
 }
 
 // Whether a variable of `t` is in no event, where `heard` has what occurs in events.
@@ -85,9 +61,9 @@ fn judge_non(table: &[u8], t: Term, carried: TermSet, heard: TermSet, variables:
 
 // The first fault of the NO atoms `nons`, by rising number.
 fn judge_nons(table: &[u8], block: usize, nons: TermSet) -> Fault
-    requires { ⌜ Ready (now table) block × IsAtoms (skeleton-at (now table) block .non) nons
-        × (¬ Cyclic (meant (drawing-at (now table) block))) ⌝ }
-    ensures { λ r. ⌜ NonsAs (drawing-at (now (table .entry)) block) r ⌝ }
+    requires { ⌜ Drawn (now table) block × IsSetOf (skeleton-at (now table) block .non) nons
+        × (¬ Cyclic (meant (drawing (now table) block))) ⌝ }
+    ensures { λ r. ⌜ NonsAs (drawing (now (table .entry)) block) r ⌝ }
 {
     let messages = origin::messages(table, block);
     let carried = carry::carried_by(table, messages);
@@ -114,7 +90,7 @@ fn event_arrives(
     origin: Node,
     node: Node,
 ) -> bool
-    requires { ⌜ Filled (now table) × Block (now table) block × (block + block-size ≤ table-size) ⌝ }
+    requires { ⌜ Drawn (now table) block ⌝ }
     requires { ⌜ (length (now before) ≡ 192) × Low (node-of origin) × Low (node-of node) ⌝ }
     ensures { λ r. ⌜ ArriveAs (skeleton-at (now (table .entry)) block) (mem marks) (now (before .entry)) (node-of origin)
         (λ m. m ≡ node-of node) r ⌝ }
@@ -137,7 +113,7 @@ fn strand_arrives(
     origin: Node,
     strand: Strand,
 ) -> bool
-    requires { ⌜ Filled (now table) × Block (now table) block × (block + block-size ≤ table-size) ⌝ }
+    requires { ⌜ Drawn (now table) block ⌝ }
     requires { ⌜ (length (now before) ≡ 192) × Low (node-of origin) × (strand .0 < byte (now table) (block + strand-count)) ⌝ }
     ensures { λ r. ⌜ ArriveAs (skeleton-at (now (table .entry)) block) (mem marks) (now (before .entry)) (node-of origin)
         (λ m. m .strand ≡ strand .0) r ⌝ }
@@ -163,7 +139,7 @@ fn strand_arrives(
 
 // Whether every reception of a marked message comes after the origin.
 fn arrives(table: &[u8], block: usize, marks: TermSet, before: &[u64], origin: Node) -> bool
-    requires { ⌜ Filled (now table) × Block (now table) block × (block + block-size ≤ table-size) ⌝ }
+    requires { ⌜ Drawn (now table) block ⌝ }
     requires { ⌜ (length (now before) ≡ 192) × Low (node-of origin) ⌝ }
     ensures { λ r. ⌜ ArrivesAs (skeleton-at (now (table .entry)) block) (mem marks) (now (before .entry)) (node-of origin)
         (byte (now (table .entry)) (block + strand-count)) r ⌝ }
@@ -179,9 +155,9 @@ fn arrives(table: &[u8], block: usize, marks: TermSet, before: &[u64], origin: N
 
 // The refusal that `t` is due as a UO atom, 0 for none.
 fn judge_uniq(table: &[u8], block: usize, before: &[u64], t: Term) -> u8
-    requires { ⌜ Ready (now table) block × Shows (skeleton-at (now table) block) (now before) × (length (now before) ≡ 192)
+    requires { ⌜ Drawn (now table) block × Shows (skeleton-at (now table) block) (now before) × (length (now before) ≡ 192)
         × (t .0 < byte (now table) 600) ⌝ }
-    ensures { λ r. ⌜ UniqAs (drawing-at (now (table .entry)) block) (t .0) r ⌝ }
+    ensures { λ r. ⌜ UniqAs (drawing (now (table .entry)) block) (t .0) r ⌝ }
 {
     let marks = carry::carriers(table, t);
     let Origins::At(origin) = origin::find_origins(table, block, marks) else {
@@ -195,9 +171,9 @@ fn judge_uniq(table: &[u8], block: usize, before: &[u64], t: Term) -> u8
 
 // The first fault of the UO atoms `uniqs`, by rising number.
 fn judge_uniqs(table: &[u8], block: usize, before: &[u64], uniqs: TermSet) -> Fault
-    requires { ⌜ Ready (now table) block × Shows (skeleton-at (now table) block) (now before) × (length (now before) ≡ 192) ⌝ }
-    requires { ⌜ IsAtoms (skeleton-at (now table) block .uniq) uniqs × UniqsTurn (drawing-at (now table) block) ⌝ }
-    ensures { λ r. ⌜ UniqsAs (drawing-at (now (table .entry)) block) r ⌝ }
+    requires { ⌜ Drawn (now table) block × Shows (skeleton-at (now table) block) (now before) × (length (now before) ≡ 192) ⌝ }
+    requires { ⌜ IsSetOf (skeleton-at (now table) block .uniq) uniqs × UniqsTurn (drawing (now table) block) ⌝ }
+    ensures { λ r. ⌜ UniqsAs (drawing (now (table .entry)) block) r ⌝ }
 {
     let n = table[TERM_COUNT];
     for i in 0..n {
@@ -213,9 +189,9 @@ fn judge_uniqs(table: &[u8], block: usize, before: &[u64], uniqs: TermSet) -> Fa
 
 // The first fault of the skeleton whose block of the table begins at `block`. `before` is its precedence.
 pub fn judge(table: &[u8], block: usize, before: &[u64]) -> Fault
-    requires { ⌜ Ready (now table) block × Ordered (now table) block × Shows (skeleton-at (now table) block) (now before)
+    requires { ⌜ Drawn (now table) block × Ordered (now table) block × Shows (skeleton-at (now table) block) (now before)
         × (length (now before) ≡ 192) ⌝ }
-    ensures { λ r. ⌜ JudgedAs (drawing-at (now (table .entry)) block) r ⌝ }
+    ensures { λ r. ⌜ JudgedAs (drawing (now (table .entry)) block) r ⌝ }
 {
     if order::cyclic(before) {
         return Fault::Found {

@@ -13,24 +13,15 @@ ghost use Rattle.keys.specs.Inverted.{Inverted};
 ghost use Rattle.stranger.specs.Reaches.{Reaches};
 ghost use Rattle.stranger.specs.Moves.{starts, Starts, Whole, Parts, Opens, Moves};
 ghost use Rattle.stranger.specs.Steps.{Added, Listed, Step, Closure};
+use tables::FIRSTS;
+use tables::SECONDS;
+use tables::TERM_COUNT;
+use tables::rows::ATOMS;
+use tables::rows::ENCRYPTION;
+use tables::rows::HASH;
+use tables::rows::PAIR;
 use terms::Term;
 use terms::TermSet;
-
-// Where the arguments begin in the table, and where the count of the terms stands.
-const FIRSTS: usize = 200;
-
-const SECONDS: usize = 400;
-
-const TERM_COUNT: usize = 600;
-
-// The kinds: below ATOMS stand tags and message variables, then come the atoms.
-const ATOMS: u8 = 2;
-
-const PAIR: u8 = 10;
-
-const ENCRYPTION: u8 = 11;
-
-const HASH: u8 = 12;
 
 // Whether the set of these words has t.
 fn has(words: &[u64], t: Term) -> bool

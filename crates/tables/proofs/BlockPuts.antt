@@ -13,7 +13,7 @@ use Rattle.model.specs.Reading.{with-order, with-non, with-uniq}
 use Rattle.tables.specs.Layout.{term-count, skeleton-count, block, block-size, table-size, strand-count, order-count, non-count, uniq-count, heights, directions, orders, nons, uniqs}
 use Rattle.tables.specs.Tables.{byte, orders-at, atoms-at, skeleton-at, skeleton-in, Block, Filled}
 use Rattle.tables.specs.Stores.{Keeps, Redrawn}
-use Rattle.tables.proofs.Upto.{upto-more}
+use Rattle.theory.specs.Upto.{upto-more}
 use Rattle.tables.proofs.Stored.{Put, keeps-within}
 use Rattle.tables.proofs.Parts.{encoded-stays, strands-same, orders-same, atoms-same, four-lists, block-same}
 

@@ -1,5 +1,4 @@
 -- Laws that belong to no one function.
-pub mod Upto
 pub mod Stored
 pub mod Look
 pub mod Parts
@@ -9,3 +8,4 @@ pub mod BlockPuts
 pub mod StrandPuts
 pub mod Begins
 pub mod Nodes
+pub mod Listed

@@ -14,7 +14,7 @@ use Rattle.tables.specs.Layout.{firsts, seconds, term-count, strand-coun
 use Rattle.tables.specs.Tables.{byte, row-at, rows-of, rows-in, strands-at, orders-at, atoms-at, skeleton-at, drawn-in, Encoded, Filled}
 use Rattle.tables.specs.Rows.{row-of, Written, same-bytes, kind-of}
 use Rattle.tables.specs.declared.rows.Row.{Row}
-use Rattle.tables.proofs.Upto.{length-upto, upto-at}
+use Rattle.theory.specs.Upto.{length-upto, upto-at}
 
 pub length-rows : (n : ℕ) (t : List ℕ) → length (rows-of n t) ≡ n
 unfolding rows-of

@@ -8,7 +8,7 @@ use Rattle.model.specs.Skeleton.{Event, Node, Skeleton}
 use Rattle.tables.specs.Layout.{strand-count, order-count, non-count, uniq-count, heights, directions, messages, orders, nons, uniqs, block-size, firsts, seconds}
 use Rattle.tables.specs.Tables.{byte, row-at, rows-of, trace-at, strands-at, orders-at, atoms-at, skeleton-at, skeleton-in, drawn-in, Encoded, Block}
 use Rattle.tables.specs.Stores.{Keeps}
-use Rattle.tables.proofs.Upto.{upto-same}
+use Rattle.theory.specs.Upto.{upto-same}
 use Rattle.tables.proofs.Stored.{keeps-within}
 
 -- a row, by its three bytes

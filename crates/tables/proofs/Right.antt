@@ -10,11 +10,11 @@ use lib.ListN.{length}
 use borrow.Author.Tests.{leb-true, leb-false, eqb-true, eqb-false, eq-eqb, ne-eqb, lt-leb}
 use Rattle.model.specs.Table as Table
 use Rattle.model.specs.Table.{Tag, Mesg, Text, Datum, Name, Skey, Akey, Pubk, Inv, Ltk, Pair, Enc, Hash, kind, first, second, row, row-of-kind, is-mesg, is-name, is-key, is-atom, earlier, sorted}
+use Rattle.theory.specs.Places.{no-element}
 use Rattle.model.specs.Reading.{Said, check, need, says, term, on-sheet, read-row, an-atom}
 use Rattle.tables.specs.Tables.{the-row}
 use Rattle.tables.specs.Rows.{row-of, Written, kind-of, by-kinds}
 use Rattle.tables.specs.declared.rows.Row.{Row}
-use Rattle.tables.proofs.Upto.{elem-out}
 
 -- what holds of each kind
 thirteen : (P : ℕ → Type 0) → P 0 → P 1 → P 2 → P 3 → P 4 → P 5 → P 6 → P 7 → P 8 → P 9 → P 10 → P 11 → P 12 → (k : ℕ) → k < 13
@@ -148,7 +148,7 @@ module _ (rows : List Table.Row) (a b : ℕ) where
   unknown : (k : ℕ) → 13 ≤ k → row-of-kind k a b ≡ none
   unfolding row-of-kind
   unknown k h =
-      elem-out
+      no-element
       (Tag a ∷ Mesg a ∷ Text a ∷ Datum a ∷ Name a ∷ Skey a ∷ Akey a ∷ Pubk a ∷ Inv a ∷ Ltk a b ∷ Pair a b ∷ Enc a b ∷ Hash a ∷ [])
       k h
 

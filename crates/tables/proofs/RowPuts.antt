@@ -12,7 +12,7 @@ use Rattle.tables.specs.Tables.{byte, row-at, rows-of, Encoded, Filled}
 use Rattle.tables.specs.Rows.{row-of, Written}
 use Rattle.tables.specs.Stores.{Keeps, RowPut}
 use Rattle.tables.specs.declared.rows.Row.{Row}
-use Rattle.tables.proofs.Upto.{upto-more}
+use Rattle.theory.specs.Upto.{upto-more}
 use Rattle.tables.proofs.Stored.{Put, keeps-within}
 use Rattle.tables.proofs.Parts.{row-same, encoded-same, block-same}
 

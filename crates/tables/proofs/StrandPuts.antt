@@ -12,7 +12,7 @@ use Rattle.model.specs.Reading.{event-in, with-strand}
 use Rattle.tables.specs.Layout.{skeleton-count, block, block-size, table-size, strand-count, order-count, non-count, uniq-count, heights, directions, messages, nons, uniqs}
 use Rattle.tables.specs.Tables.{byte, trace-at, strands-at, skeleton-at, skeleton-in, Block, Filled}
 use Rattle.tables.specs.Stores.{Keeps, Redrawn, EventsPut}
-use Rattle.tables.proofs.Upto.{upto-same, upto-more}
+use Rattle.theory.specs.Upto.{upto-same, upto-more}
 use Rattle.tables.proofs.Stored.{Put}
 use Rattle.tables.proofs.Parts.{trace-same, orders-same, atoms-same, four-lists}
 use Rattle.tables.proofs.BlockPuts.{redrawn}

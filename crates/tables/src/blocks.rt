@@ -1,31 +1,35 @@
 // The skeletons of a table: a block of bytes for each of them.
 ghost use mathlib.Core.Path.{_≡_};
+ghost use mathlib.Core.Bool.{true};
+ghost use mathlib.Core.Logic.{_↔_};
 ghost use Prim.Native.Nat.{ℕ, _+_, _*_, _<_, _≤_};
 ghost use lib.ListN.{length};
+ghost use Rattle.terms.specs.Set.{IsSetOf};
 ghost use Rattle.model.specs.Lists.{upto};
 ghost use Rattle.model.specs.Says.{node-of};
 ghost use Rattle.model.specs.Reading.{event-at, event-in, with-strand, with-order, with-non, with-uniq};
 ghost use Rattle.tables.specs.Layout.{skeleton-count, block, strand-count, order-count, non-count, uniq-count, table-size};
-ghost use Rattle.tables.specs.Tables.{byte, skeleton-in, Filled};
+ghost use Rattle.tables.specs.Tables.{byte, atoms-at, skeleton-in, Filled};
 ghost use Rattle.tables.specs.Stores.{event-said, EventsPut, HasRoom, Redrawn, Begun, Emptied};
 use crate::BLOCK_SIZE;
 use crate::BLOCKS;
-use crate::DIRECTIONS_AT;
-use crate::HEIGHT;
-use crate::HEIGHTS_AT;
-use crate::MESSAGES_AT;
+use crate::DIRECTIONS;
+use crate::HEIGHTS;
+use crate::MESSAGES;
 use crate::NON_COUNT;
-use crate::NONS_AT;
+use crate::NONS;
 use crate::ORDER_COUNT;
-use crate::ORDERS_AT;
+use crate::ORDERS;
+use crate::ROOM;
 use crate::SKELETON_COUNT;
 use crate::STRAND_COUNT;
 use crate::TERM_COUNT;
 use crate::UNIQ_COUNT;
-use crate::UNIQS_AT;
+use crate::UNIQS;
 use crate::wide;
 use terms::Node;
 use terms::Term;
+use terms::TermSet;
 
 // The directions.
 pub const SEND: u8 = 0;
@@ -76,6 +80,33 @@ pub fn uniqs_in(table: &[u8], k: usize) -> usize
     wide(table[BLOCKS + BLOCK_SIZE * k + UNIQ_COUNT])
 }
 
+// Whether there is a skeleton k.
+pub fn has_skeleton(table: &[u8], k: u8) -> bool
+    requires { ⌜ Filled (now table) ⌝ }
+    ensures { λ r. ⌜ (r ≡ true) ↔ (k < byte (now (table .entry)) skeleton-count) ⌝ }
+{
+    k < table[SKELETON_COUNT]
+}
+
+// Where the block of the skeleton k begins.
+pub fn block_of(k: u8) -> usize
+    ensures { λ r. ⌜ r ≡ block k ⌝ }
+{
+    BLOCKS + BLOCK_SIZE * wide(k)
+}
+
+// The set of the `count` atoms whose bytes begin at `at`.
+pub fn atoms(table: &[u8], at: usize, count: u8) -> TermSet
+    requires { ⌜ at + count ≤ length (now table) ⌝ }
+    ensures { λ r. ⌜ IsSetOf (atoms-at count (now (table .entry)) at) r ⌝ }
+{
+    let mut set = TermSet::EMPTY;
+    for j in 0..count {
+        set = set.with(Term(table[at + wide(j)]));
+    }
+    set
+}
+
 // The event at a node of the skeleton k.
 pub fn event_at(table: &[u8], k: usize, node: Node) -> Event
     requires { ⌜ Filled (now table) × (k < byte (now table) skeleton-count) ⌝ }
@@ -87,11 +118,11 @@ pub fn event_at(table: &[u8], k: usize, node: Node) -> Event
     if wide(table[b + STRAND_COUNT]) <= s {
         return Event::Nothing;
     }
-    if wide(table[b + HEIGHTS_AT + s]) <= p {
+    if wide(table[b + HEIGHTS + s]) <= p {
         return Event::Nothing;
     }
-    let message = Term(table[b + MESSAGES_AT + HEIGHT * s + p]);
-    if table[b + DIRECTIONS_AT + HEIGHT * s + p] == SEND {
+    let message = Term(table[b + MESSAGES + ROOM * s + p]);
+    if table[b + DIRECTIONS + ROOM * s + p] == SEND {
         return Event::Send(message);
     }
     Event::Reception(message)
@@ -141,10 +172,10 @@ pub fn put_strand(table: &mut [u8], k: usize, height: u8, rest: &[u8])
     let b = BLOCKS + BLOCK_SIZE * k;
     let count = table[b + STRAND_COUNT];
     let n = wide(count);
-    let d = b + DIRECTIONS_AT + HEIGHT * n;
-    let m = b + MESSAGES_AT + HEIGHT * n;
+    let d = b + DIRECTIONS + ROOM * n;
+    let m = b + MESSAGES + ROOM * n;
     put_events(table, d, m, height as usize, rest);
-    table[b + HEIGHTS_AT + n] = height;
+    table[b + HEIGHTS + n] = height;
     table[b + STRAND_COUNT] = count + 1;
 }
 
@@ -156,7 +187,7 @@ pub fn put_order(table: &mut [u8], k: usize, send: Node, reception: Node)
 {
     let b = BLOCKS + BLOCK_SIZE * k;
     let count = table[b + ORDER_COUNT];
-    let at = b + ORDERS_AT + 4 * wide(count);
+    let at = b + ORDERS + 4 * wide(count);
     table[at] = send.strand.0;
     table[at + 1] = send.position;
     table[at + 2] = reception.strand.0;
@@ -173,7 +204,7 @@ pub fn put_non(table: &mut [u8], k: usize, atom: Term)
     let b = BLOCKS + BLOCK_SIZE * k;
     let count = table[b + NON_COUNT];
     let n = wide(count);
-    table[b + NONS_AT + n] = atom.0;
+    table[b + NONS + n] = atom.0;
     table[b + NON_COUNT] = count + 1;
 }
 
@@ -186,6 +217,6 @@ pub fn put_uniq(table: &mut [u8], k: usize, atom: Term)
     let b = BLOCKS + BLOCK_SIZE * k;
     let count = table[b + UNIQ_COUNT];
     let n = wide(count);
-    table[b + UNIQS_AT + n] = atom.0;
+    table[b + UNIQS + n] = atom.0;
     table[b + UNIQ_COUNT] = count + 1;
 }

@@ -6,56 +6,59 @@ pub mod blocks;
 pub mod rows;
 
 // How many bytes the table takes.
-pub const TABLE: usize = BLOCKS + BLOCK_SIZE * SKELETONS;
+pub const TABLE: usize = BLOCKS + BLOCK_SIZE * MOST_SKELETONS;
 
 // The limits of a sheet, and of a skeleton.
-pub const TERMS: usize = 200;
+pub const MOST_TERMS: usize = 200;
 
-pub const SKELETONS: usize = 2;
+pub const MOST_SKELETONS: usize = 2;
 
-pub const STRANDS: usize = 6;
+pub const MOST_STRANDS: usize = 6;
 
-pub const HEIGHT: usize = 16;
+pub const MOST_HEIGHT: usize = 16;
 
-pub const ORDERS: usize = 64;
+pub const MOST_ORDERS: usize = 64;
 
-pub const NONS: usize = 32;
+pub const MOST_NONS: usize = 32;
 
-pub const UNIQS: usize = 32;
+pub const MOST_UNIQS: usize = 32;
 
 // Where everything lies: the columns of the terms, the counts, the blocks.
-const FIRSTS: usize = TERMS;
+pub const FIRSTS: usize = MOST_TERMS;
 
-const SECONDS: usize = 2 * TERMS;
+pub const SECONDS: usize = 2 * MOST_TERMS;
 
-const TERM_COUNT: usize = 3 * TERMS;
+pub const TERM_COUNT: usize = 3 * MOST_TERMS;
 
-const SKELETON_COUNT: usize = TERM_COUNT + 1;
+pub const SKELETON_COUNT: usize = TERM_COUNT + 1;
 
 const BLOCKS: usize = SKELETON_COUNT + 1;
 
+// How many nodes a strand has room for.
+pub const ROOM: usize = MOST_HEIGHT;
+
 // Where everything lies within a block: the counts, the heights, a direction and a message for each node, the records.
-const STRAND_COUNT: usize = 0;
+pub const STRAND_COUNT: usize = 0;
 
-const ORDER_COUNT: usize = 1;
+pub const ORDER_COUNT: usize = 1;
 
-const NON_COUNT: usize = 2;
+pub const NON_COUNT: usize = 2;
 
-const UNIQ_COUNT: usize = 3;
+pub const UNIQ_COUNT: usize = 3;
 
-const HEIGHTS_AT: usize = 4;
+pub const HEIGHTS: usize = 4;
 
-const DIRECTIONS_AT: usize = HEIGHTS_AT + STRANDS;
+pub const DIRECTIONS: usize = HEIGHTS + MOST_STRANDS;
 
-const MESSAGES_AT: usize = DIRECTIONS_AT + HEIGHT * STRANDS;
+pub const MESSAGES: usize = DIRECTIONS + ROOM * MOST_STRANDS;
 
-const ORDERS_AT: usize = MESSAGES_AT + HEIGHT * STRANDS;
+pub const ORDERS: usize = MESSAGES + ROOM * MOST_STRANDS;
 
-const NONS_AT: usize = ORDERS_AT + 4 * ORDERS;
+pub const NONS: usize = ORDERS + 4 * MOST_ORDERS;
 
-const UNIQS_AT: usize = NONS_AT + NONS;
+pub const UNIQS: usize = NONS + MOST_NONS;
 
-const BLOCK_SIZE: usize = UNIQS_AT + UNIQS;
+const BLOCK_SIZE: usize = UNIQS + MOST_UNIQS;
 
 // A byte as a number that can be a place.
 pub fn wide(b: u8) -> usize

@@ -13,24 +13,25 @@ use crate::TERM_COUNT;
 use crate::wide;
 use terms::Term;
 
-// The kinds that a test names. Up to AKEY the first argument is just a number.
+// The kinds that a test names. Below ATOMS stand tags and message variables, then come the atoms up to LONG_TERM; up to
+// ASYMMETRIC the first argument is just a number.
 pub const MESG: u8 = 1;
 
-pub const TEXT: u8 = 2;
+pub const ATOMS: u8 = 2;
 
 pub const NAME: u8 = 4;
 
-pub const AKEY: u8 = 6;
+pub const ASYMMETRIC: u8 = 6;
 
-pub const PUBK: u8 = 7;
+pub const PUBLIC: u8 = 7;
 
-pub const INV: u8 = 8;
+pub const INVERSE: u8 = 8;
 
-pub const LTK: u8 = 9;
+pub const LONG_TERM: u8 = 9;
 
 pub const PAIR: u8 = 10;
 
-pub const ENC: u8 = 11;
+pub const ENCRYPTION: u8 = 11;
 
 pub const HASH: u8 = 12;
 
@@ -70,7 +71,7 @@ pub fn is_atom(table: &[u8], t: Term) -> bool
     ensures { λ r. ⌜ r ≡ an-atom (rows-in (now (table .entry))) (t .0) ⌝ }
 {
     let kind = kind_of(table, t);
-    (TEXT <= kind) & (kind <= LTK)
+    (ATOMS <= kind) & (kind <= LONG_TERM)
 }
 
 // Whether the bytes of the row i are those of `row`.
@@ -103,12 +104,12 @@ pub fn row_right(table: &[u8], row: Row) -> bool
     let first = kind_of(table, Term(row.first));
     let second = kind_of(table, Term(row.second));
     let unused = row.second == 0;
-    (kind <= AKEY) & unused
-        | (kind == PUBK) & (first == NAME) & unused
-        | (kind == INV) & ((first == AKEY) | (first == PUBK)) & unused
-        | (kind == LTK) & (first == NAME) & (second == NAME)
+    (kind <= ASYMMETRIC) & unused
+        | (kind == PUBLIC) & (first == NAME) & unused
+        | (kind == INVERSE) & ((first == ASYMMETRIC) | (first == PUBLIC)) & unused
+        | (kind == LONG_TERM) & (first == NAME) & (second == NAME)
         | (kind == PAIR) & (first <= HASH) & (second <= HASH)
-        | (kind == ENC) & (first <= HASH) & (second <= HASH) & (second != MESG)
+        | (kind == ENCRYPTION) & (first <= HASH) & (second <= HASH) & (second != MESG)
         | (kind == HASH) & (first <= HASH) & unused
 }
 

@@ -2,7 +2,8 @@
 use Prim.Native.Nat.{ℕ, zero, suc, _+_, _/_, _%_, _^_, _≤_, _<_}
 use mathlib.Core.Path.{_≡_}
 use mathlib.Core.Bool.{Bool, true, false}
-use mathlib.Core.List.{List}
+use mathlib.Core.List.{List, List·Memᴰ}
+use mathlib.Core.Logic.{_↔_}
 use lib.ListN.{getD}
 use lib.Dec.{eqb}
 use Rattle.terms.specs.declared.TermSet.{TermSet}
@@ -27,6 +28,10 @@ k ∈ s = mem s k ≡ true
 infix 50 _⊆_
 abbrev pub _⊆_ : TermSet → TermSet → Type 0
 s ⊆ r = (k : ℕ) → k ∈ s → k ∈ r
+
+-- the set has the numbers of the list
+pub record IsSetOf (l : List ℕ) (s : TermSet) : Type 0 where
+  pub at : (k : ℕ) → (k ∈ s) ↔ List·Memᴰ k l
 
 -- 1 for true and 0 for false
 abbrev pub one-if : Bool → ℕ

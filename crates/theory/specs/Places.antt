@@ -3,7 +3,7 @@ use mathlib.Core.Path.{_≡_, refl, sym as back}
 use mathlib.Core.Logic.{⊎-elim}
 use mathlib.Core.List.{List, [], _∷_, List·Memᴰ, List·Memᴰ·head, List·Memᴰ·tail, List·Memᴰ·not-nil, List·Memᴰ·cases-cons, List·Memᴰ·append-cases}
 use mathlib.Core.Option.{none, some}
-use Prim.Native.Nat.{ℕ, zero, suc, _<_}
+use Prim.Native.Nat.{ℕ, zero, suc, _≤_, _<_}
 use native.Mathlib.Omega.{arith}
 use lib.ListN.{length, getD, getElem?}
 use Rattle.model.specs.Lists.{reversed}
@@ -16,6 +16,16 @@ module _ {A : Type 0} where
   inside-list [] i h = absurd (not-there h)
   inside-list (y ∷ l) zero h = omega arith
   inside-list (y ∷ l) (suc i) h = omega (arith, inside-list l i h)
+
+  pub element-at : (l : List A) (i : ℕ) (d : A) → i < length l → getElem? l i ≡ some (getD l i d)
+  element-at [] i d h = absurd (omega arith)
+  element-at (y ∷ l) zero d h = refl
+  element-at (y ∷ l) (suc i) d h = element-at l i d (omega arith)
+
+  pub no-element : (l : List A) (i : ℕ) → length l ≤ i → getElem? l i ≡ none
+  no-element [] i h = refl
+  no-element (y ∷ l) zero h = absurd (omega arith)
+  no-element (y ∷ l) (suc i) h = no-element l i (omega arith)
 
   pub in-list : (l : List A) (i : ℕ) {x : A} → getElem? l i ≡ some x → List·Memᴰ x l
   in-list [] i h = absurd (not-there h)

@@ -1,6 +1,6 @@
 -- `accept::accept_terms` meets its contract. Assumes nothing.
 use borrow.Author.Needs.{needs}
-use Rattle.accept.proofs.InTurn.{fair-rows, all-ready, keys-paired, keys-lack, sheet-as}
+use Rattle.accept.proofs.InTurn.{fair-rows, all-drawn, keys-paired, keys-lack, sheet-as}
 use Rattle.accept.proofs.accept_terms.Statement.{statement}
 use Rattle.accept.proofs.accept_terms.Tie as tie
 
@@ -14,7 +14,7 @@ judge-skeletons-requires c κs =
     let g = c .before .before .before .before .before in
     let p = g .before .before .before .before .before .pre in
     let (n, i) = keys-paired (g .fill-inverses .ensures .0) (c .before .enum-told .given .1) in
-    (all-ready _ (p .0) (p .1) n, n, p .3)
+    (all-drawn _ (p .0) (p .1) n, n, p .3)
 
 returns : tie.Need-returns
 returns c =

@@ -27,7 +27,7 @@ judge-block-requires c κs =
     let l = c .before .before .before in
     let s = l .before .before .before .before in
     let h : l .loop .k < byte (s .args .table .now) 601 = omega arith in
-    (rw (c .before .wide .ensures) (s .pre .0 .at (l .loop .k) h), l .loop .inv .1)
+    (rw (c .before .block-of .ensures) (s .pre .0 .at (l .loop .k) h), l .loop .inv .1)
 
 returns : tie.Need-returns Inv-loop μ-loop
 returns c =
@@ -37,7 +37,8 @@ returns c =
     let s = l .before .before .before .before in
     let h : l .loop .k < byte (s .args .table .now) 601 = omega arith in
     let f = c .before .before .fault .given in
-    one-faulty (s .args .table .now) (s .pre .1) (l .loop .k) _ _ _ h (l .loop .inv .2) (rw (w .wide .ensures) at (g .judge-block .ensures .0)) (f .1) (c .wide2 .ensures)
+    one-faulty (s .args .table .now) (s .pre .1) (l .loop .k) _ _ _ h (l .loop .inv .2)
+    (rw (w .block-of .ensures) at (g .judge-block .ensures .0)) (f .1) (c .wide .ensures)
 
 loop-again : tie.Need-loop-again Inv-loop μ-loop
 loop-again c =
@@ -46,7 +47,7 @@ loop-again c =
     let l = w .before .before in (
       omega arith,
       g .judge-block .ensures .1,
-      right-more _ (l .loop .k) (l .loop .inv .2) (rw (w .wide .ensures) at (g .judge-block .ensures .0)) (c .enum-told .given .1),
+      right-more _ (l .loop .k) (l .loop .inv .2) (rw (w .block-of .ensures) at (g .judge-block .ensures .0)) (c .enum-told .given .1),
     )
 
 returns-2 : tie.Need-returns-2 Inv-loop μ-loop
@@ -64,8 +65,6 @@ judge-skeletons-spec =
     μ-loop
     shared-slice-read-count
     loop-holds
-    (search needs)
-    (search needs)
     (search needs)
     judge-block-requires
     (search needs)

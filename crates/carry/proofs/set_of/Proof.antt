@@ -2,8 +2,9 @@
 use Prim.Native.Nat.{_≤_, _-_}
 use borrow.Author.Needs.{needs}
 use lib.ListN.{length, take}
-use Rattle.carry.specs.Sets.{IsSetOf}
-use Rattle.carry.proofs.Lent.{lent-none, lent-next, lent-all}
+use Rattle.terms.specs.Set.{IsSetOf}
+use Rattle.terms.proofs.Listed.{set-none}
+use Rattle.carry.proofs.Lent.{lent-next, lent-all}
 use Rattle.carry.proofs.set_of.Statement.{statement}
 use Rattle.carry.proofs.set_of.Tie as tie
 
@@ -14,7 +15,7 @@ abbrev μ-loop : tie.MeasureT-loop
 μ-loop numbers set₀ q₀ q-end set q = length numbers - q
 
 loop-holds : tie.Need-loop-holds Inv-loop μ-loop
-loop-holds c = (search needs, lent-none)
+loop-holds c = (search needs, set-none)
 
 loop-again : tie.Need-loop-again Inv-loop μ-loop
 loop-again c =

@@ -18,7 +18,7 @@ unfolding sheet-says
 returns-2 c =
     let e = c .before .before in
     let h = was-good (e .before .before .before .before .before .accept .ensures) (e .enum-told .given .1) in
-    let g = sheet-counts _ _ h (c .before .wide .ensures .0) (c .wide2 .ensures .0) in
+    let g = sheet-counts _ _ h (c .before .wide .ensures) (c .wide2 .ensures) in
     (g, sheet-small (SheetAnswer.Good _ _) g)
 
 pub sheet-spec : {M : Type 1} → statement M

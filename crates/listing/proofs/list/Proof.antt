@@ -49,12 +49,12 @@ find-maps-requires c κs =
 shared-slice-read-write-list : tie.Need-shared-slice-read-write-list
 shared-slice-read-write-list c =
     let a = asked (c .before .before .before .before .before .before .before .before) .source in
-    omega (arith, a .room, a .filled .long)
+    omega (arith, a .inside, a .filled .long)
 
 shared-slice-read-write-list-2 : tie.Need-shared-slice-read-write-list-2
 shared-slice-read-write-list-2 c =
     let a = asked (c .before .before .before .before .before .before .before .before .before) .target in
-    omega (arith, a .room, a .filled .long)
+    omega (arith, a .inside, a .filled .long)
 
 write-list-requires : tie.Need-write-list-requires
 write-list-requires c κs =

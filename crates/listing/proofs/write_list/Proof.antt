@@ -4,7 +4,6 @@ use native.Mathlib.Omega.{arith}
 use lib.ListN.{length}
 use borrow.Author.Needs.{needs}
 use Rattle.model.specs.Says.{list-says}
-use Rattle.listing.specs.Found.{GivenAs}
 use Rattle.listing.proofs.Giving.{few-bytes, no-room, all-given}
 use Rattle.listing.proofs.write_list.Statement.{statement}
 use Rattle.listing.proofs.write_list.Tie as tie

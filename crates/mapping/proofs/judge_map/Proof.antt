@@ -11,7 +11,7 @@ use Rattle.matching.specs.Matches.{Matches}
 use Rattle.maps.specs.Rules.{KeptTo1, KeptTo2, Tells5}
 use Rattle.maps.proofs.Starting.{origins-start}
 use Rattle.mapping.proofs.Judging.{breaks-1, breaks-2, breaks-3, breaks-4, breaks-5, breaks-6, all-hold, full}
-use Rattle.mapping.proofs.Judging.{ready, images-ready, drawn, was-matched, matched}
+use Rattle.mapping.proofs.Judging.{ready, images-ready, was-matched, matched}
 use Rattle.mapping.proofs.judge_map.Statement.{statement}
 use Rattle.mapping.proofs.judge_map.Tie as tie
 
@@ -82,7 +82,7 @@ matches-requires c κs =
     let s = start-2 passed in
     let p = s .pre .0 .asked in
     let laid = passed .before .rule-two .ensures .1 (not-false _ (passed .if2 .left)) in
-    (ready p, drawn (p .source), drawn (p .target), laid, s .pre .1)
+    (ready p, p .source, p .target, laid, s .pre .1)
 
 returns-3 : tie.Need-returns-3
 returns-3 c =

@@ -11,7 +11,7 @@ precedence-requires : tie.Need-precedence-requires
 precedence-requires c κs =
     let s = start c in
     let d = s .pre .0 .target in
-    (d .filled, d .block, d .room, s .pre .0 .ordered, s .pre .1)
+    (d .filled, d .block, d .inside, s .pre .0 .ordered, s .pre .1)
 
 judge-map-requires : tie.Need-judge-map-requires
 judge-map-requires c κs =

@@ -6,7 +6,7 @@ use Rattle.maps.proofs.moved.Tie as tie
 
 returns : tie.Need-returns
 unfolding node-of
-returns c = rw (c .before .before .wide .ensures .0)
+returns c = rw (c .before .before .wide .ensures)
 
 pub moved-spec : {M : Type 1} → statement M
 moved-spec =

@@ -16,7 +16,7 @@ same-directions-requires c κs =
     search needs
 
 returns-2 : tie.Need-returns-2
-returns-2 c = strand-told (c .before .before .before .before .wide .ensures .0) (search needs) (c .same-directions .ensures)
+returns-2 c = strand-told (c .before .before .before .before .wide .ensures) (search needs) (c .same-directions .ensures)
 
 pub strand-kept-spec : {M : Type 1} → statement M
 strand-kept-spec =

@@ -1,5 +1,6 @@
 -- `matching::ask_all` meets its contract: what is left to demand ends as all of it does. Assumes nothing.
-use Prim.Native.Nat.{_≤_, _-_}
+use Prim.Native.Nat.{_≤_, _<_, _-_}
+use native.Mathlib.Omega.{arith}
 use lib.ListN.{length}
 use borrow.Author.Needs.{needs}
 use borrow.Author.Tests.{not-true, not-false}
@@ -39,11 +40,18 @@ shared-slice-read-wide c = search needs
 wide-requires : tie.Need-wide-requires Inv-loop μ-loop
 wide-requires c κs = search needs
 
+-- the target strand
+strand-low : (c : tie.After-wide Inv-loop μ-loop) → c .wide .result < 6
+strand-low c =
+    let pre = c .before .before .before .before .before .before .before .pre in
+    let inside = pre .3 .inside (c .before .before .before .loop .s) (search needs) in
+    omega (arith, c .wide .ensures, inside, pre .2 .block .strands)
+
 mul-to : tie.Need-mul-to Inv-loop μ-loop
-mul-to c = search needs
+mul-to c = let low = strand-low c in search needs
 
 add-to-2 : tie.Need-add-to-2 Inv-loop μ-loop
-add-to-2 c = search needs
+add-to-2 c = let low = strand-low c in search needs
 
 add-wide : tie.Need-add-wide Inv-loop μ-loop
 add-wide c = search needs
@@ -62,7 +70,7 @@ ask-strand-requires c κs =
     let pre = c .before .before .before .before .before .before .before .before .before .before .pre in
     let s = c .before .before .before .before .before .before .loop .s in
     let lie = strand-messages (pre .0) (pre .1) (pre .2) (pre .3) s (search needs) in
-    (rw (c .before .before .before .wide .ensures .0, c .before .wide2 .ensures .0) lie, search needs)
+    (rw (c .before .before .before .wide .ensures, c .before .wide2 .ensures) lie, search needs)
 
 same-length : tie.Need-same-length Inv-loop μ-loop
 same-length c = search needs
@@ -72,7 +80,7 @@ returns c =
     let asked = c .before .before .before in
     let todo = asked .before .before .before .before .before .before .before .loop .inv .1 in
     let high = asked .before .before in
-    let step = rw (high .before .before .wide .ensures .0, high .wide2 .ensures .0) at (asked .ask-strand .ensures) in
+    let step = rw (high .before .before .wide .ensures, high .wide2 .ensures) at (asked .ask-strand .ensures) in
     gather-stopped todo (search needs) step (not-true _ (c .if1 .taken))
 
 add-s : tie.Need-add-s Inv-loop μ-loop
@@ -86,7 +94,7 @@ loop-again c =
     let asked = c .before .before .before in
     let todo = asked .before .before .before .before .before .before .before .loop .inv .1 in
     let high = asked .before .before in
-    let step = rw (high .before .before .wide .ensures .0, high .wide2 .ensures .0) at (asked .ask-strand .ensures) in
+    let step = rw (high .before .before .wide .ensures, high .wide2 .ensures) at (asked .ask-strand .ensures) in
     (search needs, gather-went todo (search needs) step (not-false _ (c .if1 .left)))
 
 same-length-2 : tie.Need-same-length-2 Inv-loop μ-loop

@@ -4,7 +4,7 @@ use mathlib.Core.Path.{sym, _∙_}
 use native.Mathlib.Omega.{arith}
 use Rattle.model.specs.Says.{node-of}
 use Rattle.origin.specs.Nodes.{nothing, sends, receives}
-use Rattle.origin.proofs.Nodes.{at-stands, sent-at, received-at}
+use Rattle.tables.proofs.Nodes.{at-stands, sent-at, received-at}
 use Rattle.origin.proofs.event_is.Statement.{statement}
 use Rattle.origin.proofs.event_is.Tie as tie
 

@@ -20,7 +20,7 @@ returns c = none-at-all (rw (c .enum-told .given .1) at (c .before .before .next
 add-next-origin : tie.Need-add-next-origin
 add-next-origin c =
     let at = c .before .before in
-    let low = origin-low (at .before .before .before .before .pre .1) (found at) in search needs
+    let low = origin-low (at .before .before .before .before .pre .block) (found at) in search needs
 
 returns-2 : tie.Need-returns-2
 returns-2 c =

@@ -5,7 +5,7 @@ use mathlib.Core.Path.{_≡_, sym, _∙_}
 use mathlib.Core.Bool.{true}
 use Rattle.terms.specs.Set.{mem}
 use Rattle.origin.specs.Marked.{node}
-use Rattle.origin.specs.Nodes.{message-at}
+use Rattle.tables.specs.Nodes.{message-at}
 use Rattle.origin.proofs.Appearing.{Unmarked, unmarked-none, unmarked-more, first-sent, first-received, never-marked}
 use Rattle.origin.proofs.first_marked.Statement.{statement}
 use Rattle.origin.proofs.first_marked.Tie as tie

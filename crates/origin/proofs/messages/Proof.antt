@@ -15,10 +15,10 @@ abbrev μ-loop : tie.MeasureT-loop
 μ-loop table block all₀ n s₀ all s = n - s
 
 loop-holds : tie.Need-loop-holds Inv-loop μ-loop
-loop-holds c = (search needs, gathered-none (c .before .before .pre .1) member-none)
+loop-holds c = (search needs, gathered-none (c .before .before .pre .block) member-none)
 
 returns : tie.Need-returns Inv-loop μ-loop
-returns c = gathered-all (c .before .before .before .before .pre .1) (c .before .loop .inv .1) (search needs)
+returns c = gathered-all (c .before .before .before .before .pre .block) (c .before .loop .inv .1) (search needs)
 
 pub messages-spec : {M : Type 1} → statement M
 messages-spec =

@@ -3,7 +3,7 @@ use borrow.Author.Needs.{needs}
 use borrow.Author.Tests.{not-true, not-false}
 use Rattle.model.specs.Answers.{AskDerivable}
 use Rattle.model.specs.Says.{node-of}
-use Rattle.questions.proofs.Subjects.{is-drawn, is-ready, reception-low}
+use Rattle.questions.proofs.Subjects.{drawn-there, is-ready, reception-low}
 use Rattle.questions.proofs.Answering.{is-there, none-such, yes-no-refused, derivable-said}
 use Rattle.questions.proofs.derivable.Statement.{statement}
 use Rattle.questions.proofs.derivable.Tie as tie
@@ -19,7 +19,7 @@ prepare-requires c κs =
     let test = c .before .before in
     let s = test .before .before .before .before in
     let has = is-there (test .has-reception-and-term .ensures) (not-false _ (c .before .if1 .left)) in
-    (is-drawn (s .args .table .now) (s .args .skeleton) (s .pre .0) (has .reception .drawing), s .pre .1)
+    (drawn-there (s .args .table .now) (s .args .skeleton) (s .pre .0 .filled) (s .pre .0 .sound) (has .reception .drawing), s .pre .1)
 
 reached-before-requires : tie.Need-reached-before-requires
 reached-before-requires c κs =
@@ -29,7 +29,7 @@ reached-before-requires c κs =
     let s = test .before .before .before .before in
     let a = s .args in
     let has = is-there (test .has-reception-and-term .ensures) (not-false _ (p .before .before .if1 .left)) in
-    let drawn = is-drawn (a .table .now) (a .skeleton) (s .pre .0) (has .reception .drawing) in (
+    let drawn = drawn-there (a .table .now) (a .skeleton) (s .pre .0 .filled) (s .pre .0 .sound) (has .reception .drawing) in (
       is-ready (a .table .now) (a .skeleton) _ (s .pre .0) (has .reception .drawing) (q .0) (q .1),
       reception-low (a .table .now) (a .skeleton) (node-of (a .node)) drawn (has .reception),
     )

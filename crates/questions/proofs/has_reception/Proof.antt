@@ -3,7 +3,7 @@ use borrow.Author.Needs.{needs}
 use borrow.Author.Tests.{not-true, not-false}
 use Rattle.model.specs.Says.{node-of}
 use Rattle.origin.proofs.Nodes.{is-received, not-received}
-use Rattle.questions.proofs.Subjects.{in-table, nothing-drawn, nothing-heard, heard-there}
+use Rattle.questions.proofs.Subjects.{skeleton-had, drawn-there, nothing-drawn, nothing-heard, heard-there}
 use Rattle.questions.proofs.Answering.{is-there}
 use Rattle.questions.proofs.has_reception.Statement.{statement}
 use Rattle.questions.proofs.has_reception.Tie as tie
@@ -11,14 +11,14 @@ use Rattle.questions.proofs.has_reception.Tie as tie
 returns : tie.Need-returns
 returns c =
     let a = c .before .before .before .args in
-    nothing-drawn (a .table .now) (a .skeleton) (node-of (a .node)) (c .before .has-skeleton .ensures)
+    nothing-drawn (a .table .now) (a .skeleton) (node-of (a .node)) (skeleton-had _ _ (c .before .has-skeleton .ensures))
     (not-true _ (c .if1 .taken))
 
 event-is-requires : tie.Need-event-is-requires
 event-is-requires c κs =
     let s = c .before .before .before .before in
-    let has = is-there (c .before .before .has-skeleton .ensures) (not-false _ (c .before .if1 .left)) in
-    in-table (s .args .table .now) (s .args .skeleton) _ (s .pre) has (c .block-of .ensures)
+    let has = is-there (skeleton-had _ _ (c .before .before .has-skeleton .ensures)) (not-false _ (c .before .if1 .left)) in
+    rw (c .block-of .ensures) (drawn-there (s .args .table .now) (s .args .skeleton) (s .pre .0) (s .pre .1) has)
 
 returns-2 : tie.Need-returns-2
 returns-2 c =
@@ -34,7 +34,7 @@ returns-3 c =
     let b = e .before in
     let test = b .before .before in
     let a = test .before .before .args in
-    heard-there (a .table .now) (a .skeleton) (node-of (a .node)) (test .has-skeleton .ensures)
+    heard-there (a .table .now) (a .skeleton) (node-of (a .node)) (skeleton-had _ _ (test .has-skeleton .ensures))
     (not-false _ (b .before .if1 .left))
     (is-received (rw (c .before .heard .given .1, b .block-of .ensures) at (e .event-is .ensures)))
 

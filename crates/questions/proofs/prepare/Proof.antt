@@ -8,7 +8,7 @@ precedence-requires : tie.Need-precedence-requires
 precedence-requires c κs =
     let p = c .before .before .before .before .pre in
     let d = p .0 in
-    rw (c .before .block-of .ensures) (d .filled, d .block, d .within, or-ordered _ _ (d .block) (d .on-table), p .1)
+    rw (c .before .block-of .ensures) (d .filled, d .block, d .inside, or-ordered _ _ (d .block) (d .on-table), p .1)
 
 returns : tie.Need-returns
 returns c =

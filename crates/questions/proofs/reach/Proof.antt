@@ -3,7 +3,7 @@ use borrow.Author.Needs.{needs}
 use borrow.Author.Tests.{not-true, not-false}
 use Rattle.model.specs.Answers.{AskReach}
 use Rattle.model.specs.Says.{node-of}
-use Rattle.questions.proofs.Subjects.{is-drawn, is-ready, reception-low}
+use Rattle.questions.proofs.Subjects.{drawn-there, is-ready, reception-low}
 use Rattle.questions.proofs.Answering.{is-there, none-such, reach-refused, reach-said}
 use Rattle.questions.proofs.reach.Statement.{statement}
 use Rattle.questions.proofs.reach.Tie as tie
@@ -19,7 +19,7 @@ prepare-requires c κs =
     let test = c .before .before in
     let s = test .before .before .before .before in
     let has = is-there (test .has-reception .ensures) (not-false _ (c .before .if1 .left)) in
-    (is-drawn (s .args .table .now) (s .args .skeleton) (s .pre .0) (has .drawing), s .pre .1)
+    (drawn-there (s .args .table .now) (s .args .skeleton) (s .pre .0 .filled) (s .pre .0 .sound) (has .drawing), s .pre .1)
 
 count-reached-requires : tie.Need-count-reached-requires
 count-reached-requires c κs =
@@ -29,7 +29,7 @@ count-reached-requires c κs =
     let s = test .before .before .before .before in
     let a = s .args in
     let has = is-there (test .has-reception .ensures) (not-false _ (p .before .before .if1 .left)) in
-    let drawn = is-drawn (a .table .now) (a .skeleton) (s .pre .0) (has .drawing) in (
+    let drawn = drawn-there (a .table .now) (a .skeleton) (s .pre .0 .filled) (s .pre .0 .sound) (has .drawing) in (
       is-ready (a .table .now) (a .skeleton) _ (s .pre .0) (has .drawing) (q .0) (q .1),
       reception-low (a .table .now) (a .skeleton) (node-of (a .node)) drawn has,
     )

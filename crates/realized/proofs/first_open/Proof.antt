@@ -2,7 +2,7 @@
 use borrow.Author.Needs.{needs}
 use Prim.Native.Nat.{_≤_, _-_}
 use Rattle.model.specs.Sheet.{meant}
-use Rattle.realized.specs.Drawn.{drawing}
+use Rattle.tables.specs.Drawn.{drawing}
 use Rattle.realized.proofs.Opening.{Passed, passed-none, passed-more, passed-first, passed-all}
 use Rattle.realized.proofs.first_open.Statement.{statement}
 use Rattle.realized.proofs.first_open.Tie as tie

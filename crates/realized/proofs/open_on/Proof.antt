@@ -4,7 +4,7 @@ use Prim.Native.Nat.{_≤_, _-_}
 use native.Mathlib.Omega.{arith}
 use Rattle.model.specs.Sheet.{meant}
 use Rattle.model.specs.Says.{node-of}
-use Rattle.realized.specs.Drawn.{drawing}
+use Rattle.tables.specs.Drawn.{drawing}
 use Rattle.realized.proofs.Opening.{ClosedBelow, closed-none, closed-more, open-here, closed-strand}
 use Rattle.realized.proofs.open_on.Statement.{statement}
 use Rattle.realized.proofs.open_on.Tie as tie

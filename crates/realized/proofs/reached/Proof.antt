@@ -8,8 +8,8 @@ returns : tie.Need-returns
 returns c =
     let sent = c .before in
     let known = sent .before .before .before .before .pre in
-    let drawn = known .0 .0 .drawn in
-    reached-before _ _ (drawn .on-table) _ (known .1) (drawn .rules .an-origin)
+    let ready = known .0 .0 in
+    reached-before _ _ (ready .drawn .on-table) _ (known .1) (ready .rules .an-origin)
     _ _ _ (sent .sent-before .ensures) (c .reach .ensures)
 
 pub reached-spec : {M : Type 1} → statement M

@@ -3,7 +3,8 @@ use borrow.Author.Needs.{needs}
 use Rattle.model.specs.Sheet.{meant}
 use Rattle.model.specs.Accepting.{Cyclic}
 use Rattle.tables.specs.Tables.{skeleton-at}
-use Rattle.rules.specs.Judged.{drawing-at, UniqsTurn}
+use Rattle.tables.specs.Drawn.{drawing}
+use Rattle.rules.specs.Judged.{UniqsTurn}
 use Rattle.rules.proofs.Faults.{a-cycle, no-cycle, nons-right, nons-fault, uniqs-judged}
 use Rattle.rules.proofs.judge.Statement.{statement}
 use Rattle.rules.proofs.judge.Tie as tie
@@ -14,7 +15,7 @@ returns c =
     a-cycle (pre .0) (pre .1) (pre .2) (c .before .cyclic .ensures) (c .if1 .taken)
 
 acyclic : (c : tie.Else1) → let args = c .before .before .before .before .args in
-    ¬ Cyclic (meant (drawing-at (args .table .now) (args .block)))
+    ¬ Cyclic (meant (drawing (args .table .now) (args .block)))
 acyclic c =
     let pre = c .before .before .before .before .pre in
     no-cycle (pre .0) (pre .1) (pre .2) (c .before .cyclic .ensures) (c .if1 .left)
@@ -29,7 +30,7 @@ returns-2 c = nons-fault (rw (c .before .number .given .1) at (c .before .before
 
 -- the UO atoms come up
 turn : (c : tie.After-enum-told) → let args = c .before .before .before .before .before .before .before .before .before .args in
-    UniqsTurn (drawing-at (args .table .now) (args .block))
+    UniqsTurn (drawing (args .table .now) (args .block))
 turn c =
     let nons = c .before .before in
     nons-right (rw (c .enum-told .given .1) at (nons .judge-nons .ensures)) (acyclic (nons .before .before .before))

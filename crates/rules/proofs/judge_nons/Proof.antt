@@ -5,7 +5,8 @@ use mathlib.Core.Path.{sym, _∙_}
 use mathlib.Core.Logic.{⊎-elim}
 use Rattle.model.specs.Accepting.{NonRight}
 use Rattle.tables.specs.Tables.{skeleton-at}
-use Rattle.rules.specs.Judged.{drawing-at, Heard}
+use Rattle.tables.specs.Drawn.{drawing}
+use Rattle.rules.specs.Judged.{Heard}
 use Rattle.rules.proofs.Listed.{Passed, passed-none, passed-more, passed-over}
 use Rattle.rules.proofs.Faults.{non-right, non-faulty, nons-fine}
 use Rattle.rules.proofs.judge_nons.Statement.{statement}
@@ -14,7 +15,7 @@ use Rattle.rules.proofs.judge_nons.Tie as tie
 abbrev Inv-loop : tie.InvT-loop
 Inv-loop table block nons carried heard variables n i₀ i =
     (i ≤ n) × Heard table block carried heard variables
-    × Passed (NonRight (drawing-at table block)) (skeleton-at table block .non) i
+    × Passed (NonRight (drawing table block)) (skeleton-at table block .non) i
 
 abbrev μ-loop : tie.MeasureT-loop
 μ-loop table block nons carried heard variables n i₀ i = n - i

@@ -5,7 +5,7 @@ use mathlib.Core.Path.{sym, _∙_}
 use mathlib.Core.Logic.{⊎-elim}
 use Rattle.model.specs.Accepting.{UniqRight}
 use Rattle.tables.specs.Tables.{skeleton-at}
-use Rattle.rules.specs.Judged.{drawing-at}
+use Rattle.tables.specs.Drawn.{drawing}
 use Rattle.rules.proofs.Listed.{Passed, passed-none, passed-more, passed-over}
 use Rattle.rules.proofs.Faults.{uniq-right, uniq-faulty, uniqs-fine}
 use Rattle.rules.proofs.judge_uniqs.Statement.{statement}
@@ -13,7 +13,7 @@ use Rattle.rules.proofs.judge_uniqs.Tie as tie
 
 abbrev Inv-loop : tie.InvT-loop
 Inv-loop table block before uniqs n i₀ i =
-    (i ≤ n) × Passed (UniqRight (drawing-at table block)) (skeleton-at table block .uniq) i
+    (i ≤ n) × Passed (UniqRight (drawing table block)) (skeleton-at table block .uniq) i
 
 abbrev μ-loop : tie.MeasureT-loop
 μ-loop table block before uniqs n i₀ i = n - i

@@ -20,14 +20,14 @@ abbrev μ-loop : tie.MeasureT-loop
 loop-holds : tie.Need-loop-holds Inv-loop μ-loop
 loop-holds c =
     let start = c .before .before .before .before in
-    let short = start .pre .0 .1 .low (start .args .strand .0) (start .pre .1 .2) in
+    let short = start .pre .0 .block .low (start .args .strand .0) (start .pre .1 .2) in
     (search needs, rw (c .before .wide .ensures) short, arrived-none (λ m h. omega arith))
 
 event-arrives-requires : tie.Need-event-arrives-requires Inv-loop μ-loop
 unfolding node-of
 event-arrives-requires c κs =
     let pre = c .before .before .before .before .before .before .pre in
-    let strands = pre .0 .1 .strands in
+    let strands = pre .0 .block .strands in
     (pre .0, (pre .1 .0, pre .1 .1, record { strand = omega arith; position = omega arith }))
 
 returns : tie.Need-returns Inv-loop μ-loop

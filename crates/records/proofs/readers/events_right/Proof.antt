@@ -6,7 +6,7 @@ use Prim.Native.Nat.{_≤_, _-_}
 use mathlib.Core.Path.{_≡_}
 use Rattle.model.specs.Lists.{every}
 use Rattle.model.specs.Reading.{event-right}
-use Rattle.tables.proofs.Upto.{every-none, every-next}
+use Rattle.theory.specs.Upto.{every-none, every-next}
 use Rattle.records.proofs.readers.events_right.Statement.{statement}
 use Rattle.records.proofs.readers.events_right.Tie as tie
 

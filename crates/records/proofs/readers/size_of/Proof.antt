@@ -2,7 +2,7 @@
 -- Assumes nothing.
 use borrow.Author.Needs.{needs}
 use Rattle.model.specs.Reading.{size}
-use Rattle.tables.proofs.Upto.{length-upto}
+use Rattle.theory.specs.Upto.{length-upto}
 use Rattle.records.proofs.readers.size_of.Statement.{statement}
 use Rattle.records.proofs.readers.size_of.Tie as tie
 

@@ -43,6 +43,8 @@ event-at-spec =
     let B = s .pre .0 .blocks (s .args .k) (s .pre .1) in
     omega (arith, B .strands, B .low (s .args .node .strand .0) (omega arith)))
     (λ c. let a = c .before .before .before .before .before .before .before .before .before .before .before .before .args in
-    a-send (a .table .now) (block (a .k)) (node-of (a .node)) (omega arith) (omega arith) (omega arith))
+    a-send (a .table .now) (block (a .k)) (node-of (a .node)) (record { strand = omega arith; position = omega arith })
+    (omega arith))
     (λ c. let a = c .before .before .before .before .before .before .before .before .before .before .before .before .args in
-    a-reception (a .table .now) (block (a .k)) (node-of (a .node)) (omega arith) (omega arith) (omega arith)))
+    a-reception (a .table .now) (block (a .k)) (node-of (a .node)) (record { strand = omega arith; position = omega arith })
+    (omega arith)))

@@ -8,7 +8,7 @@ use Rattle.model.specs.Lists.{some-of, upto}
 use Rattle.model.specs.Table.{alike}
 use Rattle.tables.specs.Tables.{row-at}
 use Rattle.tables.specs.Rows.{row-of}
-use Rattle.tables.proofs.Upto.{some-none, some-next}
+use Rattle.theory.specs.Upto.{some-none, some-next}
 use Rattle.tables.proofs.Look.{alike-bytes, all-searched}
 use Rattle.tables.proofs.rows.on_sheet.Statement.{statement}
 use Rattle.tables.proofs.rows.on_sheet.Tie as tie

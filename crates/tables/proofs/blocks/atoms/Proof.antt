@@ -1,15 +1,15 @@
--- `rules::atoms` meets its contract: the loop's set has the atoms that were passed. Assumes nothing.
+-- `tables::blocks::atoms` meets its contract: the loop's set has the atoms that were passed. Assumes nothing.
 use mathlib.Core.Path.{_≡_}
 use Prim.Native.Nat.{_≤_, _-_}
 use borrow.Author.Needs.{needs}
+use Rattle.terms.specs.Set.{IsSetOf}
 use Rattle.tables.specs.Tables.{atoms-at}
-use Rattle.rules.specs.Judged.{IsAtoms}
-use Rattle.rules.proofs.Listed.{atoms-none, atoms-more}
-use Rattle.rules.proofs.atoms.Statement.{statement}
-use Rattle.rules.proofs.atoms.Tie as tie
+use Rattle.tables.proofs.Listed.{atoms-none, atoms-more}
+use Rattle.tables.proofs.blocks.atoms.Statement.{statement}
+use Rattle.tables.proofs.blocks.atoms.Tie as tie
 
 abbrev Inv-loop : tie.InvT-loop
-Inv-loop table at count set₀ j₀ set j = (j ≤ count) × IsAtoms (atoms-at j table at) set
+Inv-loop table at count set₀ j₀ set j = (j ≤ count) × IsSetOf (atoms-at j table at) set
 
 abbrev μ-loop : tie.MeasureT-loop
 μ-loop table at count set₀ j₀ set j = count - j

@@ -1,8 +1,8 @@
--- `mapping::has_skeleton` meets its contract. Assumes nothing.
+-- `tables::blocks::has_skeleton` meets its contract. Assumes nothing.
 use borrow.Author.Needs.{needs}
 use borrow.Author.Tests.{ltb-true, lt-ltb}
-use Rattle.mapping.proofs.has_skeleton.Statement.{statement}
-use Rattle.mapping.proofs.has_skeleton.Tie as tie
+use Rattle.tables.proofs.blocks.has_skeleton.Statement.{statement}
+use Rattle.tables.proofs.blocks.has_skeleton.Tie as tie
 
 returns : tie.Need-returns
 returns c = (ltb-true _ _, lt-ltb _ _)
