@@ -31,17 +31,17 @@ fn with_if(set: TermSet, t: Term, so: bool) -> TermSet
     set
 }
 
-// Whether `t` is loose in the term `i`, where `loose` says so of the terms before it.
-fn loose_at(table: &[u8], t: Term, set: TermSet, loose: TermSet, i: u8) -> bool
-    requires { ⌜ Filled (now table) × (i < byte (now table) 600) ⌝ }
-    ensures { λ r. ⌜ r ≡ loose-next (mem set) (mem loose) (t .0) i (row-at (now (table .entry)) i) ⌝ }
+// Whether `t` is loose in the term `inside`, where `loose` says so of the terms before it.
+fn loose_at(table: &[u8], t: Term, set: TermSet, loose: TermSet, inside: Term) -> bool
+    requires { ⌜ Filled (now table) × (inside .0 < byte (now table) 600) ⌝ }
+    ensures { λ r. ⌜ r ≡ loose-next (mem set) (mem loose) (t .0) (inside .0) (row-at (now (table .entry)) (inside .0)) ⌝ }
 {
-    let at = i as usize;
+    let at = inside.0 as usize;
     let kind = table[at];
     let first = loose.has(Term(table[FIRSTS + at]));
     let second = loose.has(Term(table[SECONDS + at]));
     let part = (kind == 10) & (first | second) | (kind == 11) & first;
-    (i == t.0) | !set.has(Term(i)) & part
+    (inside.0 == t.0) | !set.has(inside) & part
 }
 
 // The terms in which `t` is carried outside all members of `set`.
@@ -52,7 +52,7 @@ pub fn loose(table: &[u8], t: Term, set: TermSet) -> TermSet
     let mut loose = TermSet::EMPTY;
     let n = table[TERM_COUNT];
     for i in 0..n {
-        let so = loose_at(table, t, set, loose, i);
+        let so = loose_at(table, t, set, loose, Term(i));
         loose = with_if(loose, Term(i), so);
     }
     loose
@@ -86,17 +86,17 @@ pub fn within(table: &[u8], t: Term, inside: Term, set: &[u8]) -> bool
     !loose(table, t, members).has(inside)
 }
 
-// The parts so far, with the term `i` and its arguments too if it is in `start` or among them.
-fn with_parts(table: &[u8], start: TermSet, parts: TermSet, i: u8) -> TermSet
-    requires { ⌜ Filled (now table) × (i < byte (now table) 600) ⌝ }
-    ensures { λ r. ⌜ ((k : ℕ) → mem r k ≡ parts-next is-part (mem start) (mem parts) i (row-at (now (table .entry)) i) k) ⌝ }
+// The parts so far, with the term `t` and its arguments too if it is in `start` or among them.
+fn with_parts(table: &[u8], start: TermSet, parts: TermSet, t: Term) -> TermSet
+    requires { ⌜ Filled (now table) × (t .0 < byte (now table) 600) ⌝ }
+    ensures { λ r. ⌜ ((k : ℕ) → mem r k ≡ parts-next is-part (mem start) (mem parts) (t .0) (row-at (now (table .entry)) (t .0)) k) ⌝ }
 {
-    let at = i as usize;
+    let at = t.0 as usize;
     let kind = table[at];
-    let so = start.has(Term(i)) | parts.has(Term(i));
+    let so = start.has(t) | parts.has(t);
     let one = so & (7 <= kind);
     let two = so & ((9 <= kind) & (kind <= 11));
-    let itself = with_if(parts, Term(i), so);
+    let itself = with_if(parts, t, so);
     let first = with_if(itself, Term(table[FIRSTS + at]), one);
     with_if(first, Term(table[SECONDS + at]), two)
 }
@@ -111,7 +111,7 @@ pub fn parts_below(table: &[u8], start: TermSet, top: u8) -> TermSet
     let mut i = top;
     while 0 < i {
         i -= 1;
-        parts = with_parts(table, start, parts, i);
+        parts = with_parts(table, start, parts, Term(i));
     }
     parts
 }
@@ -124,17 +124,17 @@ pub fn parts_of(table: &[u8], start: TermSet) -> TermSet
     parts_below(table, start, table[TERM_COUNT])
 }
 
-// What is carried so far, with the term `i` and the arguments that it carries too if it is in `start` or among them.
-fn with_carried(table: &[u8], start: TermSet, carried: TermSet, i: u8) -> TermSet
-    requires { ⌜ Filled (now table) × (i < byte (now table) 600) ⌝ }
-    ensures { λ r. ⌜ ((k : ℕ) → mem r k ≡ parts-next is-carried (mem start) (mem carried) i (row-at (now (table .entry)) i) k) ⌝ }
+// What is carried so far, with the term `t` and the arguments that it carries too if it is in `start` or among them.
+fn with_carried(table: &[u8], start: TermSet, carried: TermSet, t: Term) -> TermSet
+    requires { ⌜ Filled (now table) × (t .0 < byte (now table) 600) ⌝ }
+    ensures { λ r. ⌜ ((k : ℕ) → mem r k ≡ parts-next is-carried (mem start) (mem carried) (t .0) (row-at (now (table .entry)) (t .0)) k) ⌝ }
 {
-    let at = i as usize;
+    let at = t.0 as usize;
     let kind = table[at];
-    let so = start.has(Term(i)) | carried.has(Term(i));
+    let so = start.has(t) | carried.has(t);
     let one = so & ((kind == 10) | (kind == 11));
     let two = so & (kind == 10);
-    let itself = with_if(carried, Term(i), so);
+    let itself = with_if(carried, t, so);
     let first = with_if(itself, Term(table[FIRSTS + at]), one);
     with_if(first, Term(table[SECONDS + at]), two)
 }
@@ -148,17 +148,17 @@ pub fn carried_by(table: &[u8], start: TermSet) -> TermSet
     let mut i = table[TERM_COUNT];
     while 0 < i {
         i -= 1;
-        carried = with_carried(table, start, carried, i);
+        carried = with_carried(table, start, carried, Term(i));
     }
     carried
 }
 
-// Whether the term `i` is a variable.
-fn variable_at(table: &[u8], i: u8) -> bool
-    requires { ⌜ Filled (now table) × (i < byte (now table) 600) ⌝ }
-    ensures { λ r. ⌜ r ≡ is-variable (row-at (now (table .entry)) i) ⌝ }
+// Whether `t` is a variable.
+fn variable_at(table: &[u8], t: Term) -> bool
+    requires { ⌜ Filled (now table) × (t .0 < byte (now table) 600) ⌝ }
+    ensures { λ r. ⌜ r ≡ is-variable (row-at (now (table .entry)) (t .0)) ⌝ }
 {
-    let at = i as usize;
+    let at = t.0 as usize;
     let kind = table[at];
     (1 <= kind) & (kind <= 6)
 }
@@ -171,7 +171,7 @@ pub fn variables(table: &[u8]) -> TermSet
     let mut variables = TermSet::EMPTY;
     let n = table[TERM_COUNT];
     for i in 0..n {
-        let so = variable_at(table, i);
+        let so = variable_at(table, Term(i));
         variables = with_if(variables, Term(i), so);
     }
     variables

@@ -8,8 +8,8 @@ use Rattle.carry.proofs.with_parts.Tie as tie
 
 returns : tie.Need-returns
 returns c =
-    let s = c .before .before .before .before .before .before .before .before .before in
-    let e = s .pre .0 .encoded (s .args .i) (s .pre .1) in
+    let s = c .before .before .before .before .before .before .before .before .before .before in
+    let e = s .pre .0 .encoded (s .args .t .0) (s .pre .1) in
     let has = c .before .before .before .before .before .before .has .ensures in
     let has2 = c .before .before .before .before .before .has2 .ensures in
     let itself = c .before .before .before .before .with-if .ensures in
@@ -18,5 +18,5 @@ returns c =
 pub with-parts-spec : {M : Type 1} → statement M
 with-parts-spec =
     tie.close
-    (tie.spec (search needs) (search needs) (search needs) (search needs) (search needs) (search needs) (search needs)
+    (tie.spec (search needs) (search needs) (search needs) (search needs) (search needs) (search needs) (search needs) (search needs)
     (search needs) (search needs) (search needs) returns)
