@@ -49,7 +49,7 @@ skeleton-lies t k D h =
 
 -- the OR records' nodes
 module _ (t : List ℕ) (b : ℕ) (few : Block t b) (on : OnTable (rows-in t) (skeleton-at t b)) where
-  pair-low : (m n : Node) → List·Memᴰ (m, n) (skeleton-at t b .order) → Low m × Low n
+  pair-low : (m n : Node) → List·Memᴰ (m, n) (skeleton-at t b .order) → Low m × Low n × (m .strand < byte t (b + strand-count))
   unfolding edges Precedence.Low Precedence.code skeleton-at strands-at
   pair-low m n p =
       let e : List·Memᴰ (m, n) (edges (skeleton-at t b)) = Memᴰ·append-right (all-steps (height (skeleton-at t b)) (length (skeleton-at t b .strands))) p in
@@ -58,6 +58,7 @@ module _ (t : List ℕ) (b : ℕ) (few : Block t b) (on : OnTable (rows-in t) (s
       let l : length (skeleton-at t b .strands) ≡ byte t (b + strand-count) = length-upto _ _ in (
         record { strand = omega (arith, few .strands); position = x },
         record { strand = omega (arith, few .strands); position = y },
+        omega arith,
       )
 
   listed : (i : ℕ) → i < byte t (b + order-count)
@@ -69,4 +70,9 @@ module _ (t : List ℕ) (b : ℕ) (few : Block t b) (on : OnTable (rows-in t) (s
       rw (upto-at n f (f 0) i h) at (listed-at (upto n f) i (f 0) (rw length-upto h))
 
   pub or-ordered : Ordered t b
-  or-ordered = record { first = λ i h. pair-low _ _ (listed i h) .0; second = λ i h. pair-low _ _ (listed i h) .1 }
+  or-ordered =
+      record {
+        inside = λ i h. pair-low _ _ (listed i h) .2;
+        first = λ i h. pair-low _ _ (listed i h) .0;
+        second = λ i h. pair-low _ _ (listed i h) .1;
+      }

@@ -89,6 +89,9 @@ fn judge_nons(table: &[u8], block: usize, nons: TermSet) -> Fault
         × (¬ Cyclic (meant (drawing-at (now table) block))) ⌝ }
     ensures { λ r. ⌜ NonsAs (drawing-at (now (table .entry)) block) r ⌝ }
 {
+    if table[block + NON_COUNT] == 0 {
+        return Fault::Nothing;
+    }
     let messages = origin::messages(table, block);
     let carried = carry::carried_by(table, messages);
     let heard = carry::parts_of(table, messages);
@@ -199,6 +202,9 @@ fn judge_uniqs(table: &[u8], block: usize, before: &[u64], uniqs: TermSet) -> Fa
     requires { ⌜ IsAtoms (skeleton-at (now table) block .uniq) uniqs × UniqsTurn (drawing-at (now table) block) ⌝ }
     ensures { λ r. ⌜ UniqsAs (drawing-at (now (table .entry)) block) r ⌝ }
 {
+    if table[block + UNIQ_COUNT] == 0 {
+        return Fault::Nothing;
+    }
     let n = table[TERM_COUNT];
     for i in 0..n {
         if uniqs.has(Term(i)) {
@@ -217,7 +223,7 @@ pub fn judge(table: &[u8], block: usize, before: &[u64]) -> Fault
         × (length (now before) ≡ 192) ⌝ }
     ensures { λ r. ⌜ JudgedAs (drawing-at (now (table .entry)) block) r ⌝ }
 {
-    if order::cyclic(before) {
+    if order::cyclic(table, block, before) {
         return Fault::Found {
             number: 10,
             place: 0,
