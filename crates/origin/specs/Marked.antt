@@ -2,7 +2,7 @@
 -- term in question.
 use mathlib.Core.Path.{_≡_}
 use mathlib.Core.Bool.{Bool, true, false}
-use mathlib.Core.Logic.{_↔_, _≢_}
+use mathlib.Core.Logic.{_≢_}
 use Prim.Native.Nat.{ℕ, _<_}
 use Rattle.terms.specs.declared.TermSet.{TermSet}
 use Rattle.terms.specs.declared.Node.{Node}

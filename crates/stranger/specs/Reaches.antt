@@ -7,7 +7,7 @@ use Prim.Native.Nat.{ℕ, _<_}
 use lib.ListN.{length}
 use Rattle.terms.specs.declared.TermSet.{TermSet}
 use Rattle.terms.specs.Set.{mem}
-use Rattle.model.specs.Term.{Atom, Term, atom}
+use Rattle.model.specs.Term.{Term, atom}
 use Rattle.model.specs.Derive.{Derivable}
 use Rattle.model.specs.Table.{Row, term}
 

@@ -3,7 +3,6 @@
 mod proved;
 
 use std::hint::black_box;
-use std::process::ExitCode;
 use std::time::Instant;
 
 use sheets::builder::Sheet;
@@ -28,7 +27,7 @@ struct Asked {
 
 type Ask = fn(&mut Asked) -> u64;
 
-fn main() -> ExitCode {
+fn main() {
     println!(
         "{:40} {:>10} {:>10} {:>6}",
         "nanoseconds a question", "judge", "second", "ratio"
@@ -65,7 +64,6 @@ fn main() -> ExitCode {
         "every ratio is at most {MOST}: {}",
         if kept { "yes" } else { "no" }
     );
-    ExitCode::SUCCESS
 }
 
 fn asked(sheet: Vec<u8>, question: Question) -> Asked {
@@ -77,7 +75,7 @@ fn asked(sheet: Vec<u8>, question: Question) -> Asked {
     }
 }
 
-/// A question of each kind about the 105-byte sheet. The list is to come.
+/// A question of each kind about the 105-byte sheet. The list is to be added here once the judge takes it.
 fn about_the_example() -> Vec<Question> {
     let (skeleton, node) = (1, (0, 1));
     vec![

@@ -23,8 +23,8 @@ returns-2 c =
     let s = has .before .before .before .before in
     let found = sym (ap₂ _||_ (has .has .ensures) (test .before .has2 .ensures)) ∙ not-false _ (test .if1 .left) in
     record {
-      at = parts-in _ (s .pre .0 .encoded (s .args .t .0) (s .pre .1)) found (itself .add-if .ensures) (second .add-if2 .ensures)
-          (third .add-if3 .ensures);
+      at = parts-in _ (s .pre .0 .encoded (s .args .t .0) (s .pre .1)) found (itself .add-if .ensures)
+          (second .add-if2 .ensures) (third .add-if3 .ensures);
       long = search needs;
     }
 

@@ -14,7 +14,8 @@ use Rattle.carry.proofs.put_carried.Tie as tie
 abbrev Inv-loop : tie.InvT-loop
 Inv-loop table start words₀ i₀ words i =
     (i ≤ byte table 600) × (length words ≡ 4)
-    × Closing is-carried (λ k. CarriedIn (rows-in table) (of start) (term (rows-in table) k)) (rows-in table) (of start) i (of words)
+    × Closing is-carried (λ k. CarriedIn (rows-in table) (of start) (term (rows-in table) k)) (rows-in table) (of start) i
+    (of words)
 
 abbrev μ-loop : tie.MeasureT-loop
 μ-loop table start words₀ i₀ words i = i
@@ -39,7 +40,9 @@ loop-again c =
     (search needs, added .long, carried-falls (l .i - 1) _ (p .0) (p .1) (search needs) (search needs) (l .inv .2) (added .at))
 
 same-length : tie.Need-same-length Inv-loop μ-loop
-same-length c = let p = c .before .before .before .before .before .before .pre .1 in c .before .loop .inv .1 ∙ sym (ap length (p .1))
+same-length c =
+    let p = c .before .before .before .before .before .before .pre .1 in
+    c .before .loop .inv .1 ∙ sym (ap length (p .1))
 
 returns : tie.Need-returns Inv-loop μ-loop
 returns c =

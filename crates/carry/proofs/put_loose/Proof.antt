@@ -38,7 +38,9 @@ loop-again c =
     (search needs, search needs, shows-more shows _ so (added .add-if .ensures .at))
 
 same-length : tie.Need-same-length Inv-loop μ-loop
-same-length c = let p = c .before .before .before .before .before .before .pre .1 in c .before .loop .inv .1 ∙ sym (ap length (p .1))
+same-length c =
+    let p = c .before .before .before .before .before .before .pre .1 in
+    c .before .loop .inv .1 ∙ sym (ap length (p .1))
 
 returns : tie.Need-returns Inv-loop μ-loop
 returns c =

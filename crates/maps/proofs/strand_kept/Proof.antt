@@ -21,6 +21,6 @@ returns-2 c = strand-told (c .before .before .before .before .wide .ensures .0) 
 pub strand-kept-spec : {M : Type 1} → statement M
 strand-kept-spec =
     tie.close
-    (tie.spec (search needs) (search needs) (search needs) (search needs) (search needs) (search needs) (search needs) (search needs)
-    (search needs) (search needs) returns (search needs) (search needs) (search needs) (search needs) (search needs)
+    (tie.spec (search needs) (search needs) (search needs) (search needs) (search needs) (search needs) (search needs)
+    (search needs) (search needs) (search needs) returns (search needs) (search needs) (search needs) (search needs) (search needs)
     (search needs) same-directions-requires returns-2)

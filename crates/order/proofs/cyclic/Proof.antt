@@ -49,4 +49,5 @@ returns-2 c =
 pub cyclic-spec : {M : Type 1} → statement M
 cyclic-spec =
     tie.close
-    (tie.spec Inv-loop μ-loop row-count-requires loop-holds (search needs) returns (search needs) (search needs) loop-again returns-2)
+    (tie.spec Inv-loop μ-loop row-count-requires loop-holds (search needs) returns (search needs) (search needs) loop-again
+    returns-2)

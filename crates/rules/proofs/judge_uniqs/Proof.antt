@@ -43,7 +43,9 @@ loop-again c =
     (search needs, passed)
 
 returns-3 : tie.Need-returns-3 Inv-loop μ-loop
-returns-3 c = uniqs-fine (c .before .before .before .before .before .before .before .pre .0 .0) (c .before .loop .inv .1) (search needs)
+returns-3 c =
+    let pre = c .before .before .before .before .before .before .before .pre in
+    uniqs-fine (pre .0 .0) (c .before .loop .inv .1) (search needs)
 
 pub judge-uniqs-spec : {M : Type 1} → statement M
 judge-uniqs-spec =
