@@ -54,7 +54,7 @@ module _ (t : List ℕ) (filled : Filled t) (sound : Sound (sheet-in t)) (k : �
 
 -- the OR records' nodes
 module _ (t : List ℕ) (b : ℕ) (few : Block t b) (on : OnTable (rows-in t) (skeleton-at t b)) where
-  pair-low : (m n : Node) → List·Memᴰ (m, n) (skeleton-at t b .order) → Low m × Low n
+  pair-low : (m n : Node) → List·Memᴰ (m, n) (skeleton-at t b .order) → Low m × Low n × (m .strand < byte t (b + strand-count))
   unfolding edges Precedence.Low Precedence.code
   pair-low m n p =
       let e : List·Memᴰ (m, n) (edges (skeleton-at t b)) =
@@ -64,7 +64,13 @@ module _ (t : List ℕ) (b : ℕ) (few : Block t b) (on : OnTable (rows-in t) (s
       let l = length-strands t b in (
         record { strand = omega (arith, few .strands); position = x },
         record { strand = omega (arith, few .strands); position = y },
+        omega arith,
       )
 
   pub or-ordered : Ordered t b
-  or-ordered = record { first = λ i h. pair-low _ _ (pair-in t b i h) .0; second = λ i h. pair-low _ _ (pair-in t b i h) .1 }
+  or-ordered =
+      record {
+        inside = λ i h. pair-low _ _ (pair-in t b i h) .2;
+        first = λ i h. pair-low _ _ (pair-in t b i h) .0;
+        second = λ i h. pair-low _ _ (pair-in t b i h) .1;
+      }

@@ -1,7 +1,7 @@
 -- What occurs in members of a set, and what they carry, by one pass from the last row of a good table to the first.
 -- Assumes nothing.
-use mathlib.Core.Path.{_≡_, refl}
-use mathlib.Core.Bool.{Bool, true, false, _||_, _&&_}
+use mathlib.Core.Path.{_≡_, refl, sym}
+use mathlib.Core.Bool.{Bool, true, false, _||_, _&&_, or-false}
 use mathlib.Core.List.{List}
 use mathlib.Core.Logic.{_⊎_, inl, inr, ⊎-elim}
 use Prim.Native.Nat.{ℕ, _+_, _≤_, _<_}
@@ -10,7 +10,7 @@ use native.Mathlib.Decide.{ℕ-discrete}
 use lib.Dec.{T, eqb, leb, eqb→eq, eqb-refl}
 use lib.ListN.{length}
 use Rattle.terms.specs.declared.TermSet.{TermSet}
-use Rattle.terms.specs.Set.{mem}
+use Rattle.terms.specs.Set.{mem, member}
 use Rattle.terms.proofs.Words.{member-none}
 use Rattle.model.specs.Carry.{Occurs, Carries}
 use Rattle.model.specs.Table.{Row, row, term}
@@ -21,7 +21,7 @@ use Rattle.theory.specs.Numbers.{number, number-term}
 use Rattle.theory.specs.OnSheet.{OnSheet}
 use Rattle.tables.specs.Tables.{byte, row-at, rows-in, Encoded, Filled}
 use Rattle.carry.specs.Next.{has-first, has-second, is-part, is-carried, parts-next}
-use Rattle.carry.specs.Sets.{Shows, EndsBy, InMember, IsParts, CarriedIn, IsCarried}
+use Rattle.carry.specs.Sets.{Added, Shows, EndsBy, InMember, IsParts, CarriedIn, IsCarried}
 use Rattle.terms.proofs.Listed.{empty}
 use Rattle.carry.proofs.Shown.{is-T}
 use Rattle.carry.proofs.Rows.{rows-length, inside-in, row-in}
@@ -56,11 +56,11 @@ module _ (part : Row → ℕ → Bool) (P : ℕ → Type 0) (rows : List Row) (s
   Found : Type 0
   Found = T (mem start j || mem s j)
 
-  Added : ℕ → Type 0
-  Added k = (k ≡ j) ⊎ T (part (row rows j) k)
+  Comes : ℕ → Type 0
+  Comes k = (k ≡ j) ⊎ T (part (row rows j) k)
 
-  new : (k : ℕ) → T (mem r k) → T (mem s k) ⊎ (Found × Added k)
-  unfolding parts-next Found Added
+  new : (k : ℕ) → T (mem r k) → T (mem s k) ⊎ (Found × Comes k)
+  unfolding parts-next Found Comes
   new k h =
       let so = mem start j || mem s j in
       let p = part (row rows j) k in
@@ -72,8 +72,8 @@ module _ (part : Row → ℕ → Bool) (P : ℕ → Type 0) (rows : List Row) (s
   unfolding parts-next
   kept k h = rw (made k) (or-left (mem s k) _ h)
 
-  added : (k : ℕ) → Found → Added k → T (mem r k)
-  unfolding parts-next Found Added
+  added : (k : ℕ) → Found → Comes k → T (mem r k)
+  unfolding parts-next Found Comes
   added k f a =
       let p = part (row rows j) k in
       let b = ⊎-elim (λ e. or-left (eqb k j) p (rw e (eqb-refl j))) (λ q. or-right (eqb k j) p q) a in
@@ -84,7 +84,7 @@ module _ (part : Row → ℕ → Bool) (P : ℕ → Type 0) (rows : List Row) (s
   has-P f = ⊎-elim (descends .begins j inside) (λ h. so-far .only j h .1) (or-cases (mem start j) (mem s j) f)
 
   only-next : (k : ℕ) → T (mem r k) → (k < length rows) × P k
-  unfolding Added
+  unfolding Comes
   only-next k h =
       ⊎-elim (so-far .only k)
       (λ w. ⊎-elim (λ e. rw e (inside, has-P (w .0)))
@@ -92,7 +92,7 @@ module _ (part : Row → ℕ → Bool) (P : ℕ → Type 0) (rows : List Row) (s
 
   -- a term above j is not added now
   above : (k : ℕ) → j < k → T (mem r k) → T (mem s k)
-  unfolding Added
+  unfolding Comes
   above k l h =
       ⊎-elim (λ m. m) (λ w. ⊎-elim (λ e. absurd (omega arith)) (λ q. absurd (omega (arith, descends .below j k inside q)))
       (w .1)) (new k h)
@@ -102,12 +102,12 @@ module _ (part : Row → ℕ → Bool) (P : ℕ → Type 0) (rows : List Row) (s
   found h = ⊎-elim (λ m. or-right (mem start j) (mem s j) m) (λ w. w .0) (new j h)
 
   takes-next : (m : ℕ) → m < length rows → Dec (m ≡ j) → j ≤ m → T (mem start m) → T (mem r m)
-  unfolding Found Added
+  unfolding Found Comes
   takes-next m h (yes e) l q = rw e (added j (or-left (mem start j) (mem s j) (rw e at q)) (inl refl))
   takes-next m h (no n) l q = kept m (so-far .takes m (omega arith) h q)
 
   closed-next : (m k : ℕ) → m < length rows → Dec (m ≡ j) → j ≤ m → T (mem r m) → T (part (row rows m) k) → T (mem r k)
-  unfolding Added
+  unfolding Comes
   closed-next m k h (yes e) l q p = added k (found (rw e at q)) (inr (rw e at p))
   closed-next m k h (no n) l q p = kept k (so-far .closed m k (omega arith) h (above m (omega arith) q) p)
 
@@ -207,37 +207,37 @@ module _ {table : List ℕ} {start : TermSet} {i : ℕ} (j : ℕ) {s : TermSet} 
       closing-falls is-carried _ (rows-in table) start (carried-descend (rows-in table) good start) i j falls
       (inside-in table below) s r so-far (rw (row-in table j below) made)
 
--- Three additions are one
+-- One visit of a term by its bytes
 
-spread : (known so same one a two b : Bool)
-    → (known || (so && same) || ((so && one) && a) || ((so && two) && b))
-    ≡ (known || (so && (same || ((one && a) || (two && b)))))
-spread true so same one a two b = refl
-spread false false same one a two b = refl
-spread false true true one a two b = refl
-spread false true false one a two b = refl
+-- where the term is not found, nothing is added
+pub parts-kept : (part : Row → ℕ → Bool) (start s : List ℕ) (i : ℕ) (q : Row) → (member start i || member s i) ≡ false
+    → (k : ℕ) → member s k ≡ parts-next part (member start) (member s) i q k
+unfolding parts-next
+parts-kept part start s i q off k = rw off (sym (or-false (member s k)))
+
+-- three additions are one
+spread : (known same one two : Bool) → (((known || same) || one) || two) ≡ (known || (same || (one || two)))
+spread true same one two = refl
+spread false true one two = refl
+spread false false one two = refl
 
 -- the arguments with `part` are the first, where `one` says so, and the second, where `two` does
-module _ {table : List ℕ} {i : ℕ} {so : Bool} (start parts x y z : TermSet) (e : Encoded table i)
-    (s : so ≡ (mem start i || mem parts i)) (itself : (k : ℕ) → mem x k ≡ (mem parts k || (so && eqb k i))) where
-  abbrev kind-byte : ℕ
-  kind-byte = byte table i
-
-  pub parts-in : ((k : ℕ) → mem y k ≡ (mem x k || ((so && leb 7 kind-byte) && eqb k (byte table (200 + i)))))
-      → ((k : ℕ) → mem z k ≡ (mem y k || ((so && (leb 9 kind-byte && leb kind-byte 11)) && eqb k (byte table (400 + i)))))
-      → (k : ℕ) → mem z k ≡ parts-next is-part (mem start) (mem parts) i (row-at table i) k
+module _ {table : List ℕ} {i : ℕ} (start : List ℕ) {s x : List ℕ} (e : Encoded table i)
+    (found : (member start i || member s i) ≡ true) (itself : Added i true s x) where
+  pub parts-in : {y z : List ℕ} → Added (byte table (200 + i)) (leb 7 (byte table i)) x y
+      → Added (byte table (400 + i)) (leb 9 (byte table i) && leb (byte table i) 11) y z
+      → (k : ℕ) → member z k ≡ parts-next is-part (member start) (member s) i (row-at table i) k
   unfolding parts-next is-part has-first has-second
   parts-in one two k =
-      rw (two k, one k, itself k, ← s, e .kind-is, e .first-is, e .second-is)
-      (spread (mem parts k) so (eqb k i) (leb 7 kind-byte) (eqb k (byte table (200 + i))) (leb 9 kind-byte && leb kind-byte 11)
-      (eqb k (byte table (400 + i))))
+      rw (two .at k, one .at k, itself .at k, found, e .kind-is, e .first-is, e .second-is)
+      (spread (member s k) (eqb k i) (leb 7 (byte table i) && eqb k (byte table (200 + i)))
+      ((leb 9 (byte table i) && leb (byte table i) 11) && eqb k (byte table (400 + i))))
 
-  pub carried-in :
-      ((k : ℕ) → mem y k ≡ (mem x k || ((so && (eqb kind-byte 10 || eqb kind-byte 11)) && eqb k (byte table (200 + i)))))
-      → ((k : ℕ) → mem z k ≡ (mem y k || ((so && eqb kind-byte 10) && eqb k (byte table (400 + i)))))
-      → (k : ℕ) → mem z k ≡ parts-next is-carried (mem start) (mem parts) i (row-at table i) k
+  pub carried-in : {y z : List ℕ} → Added (byte table (200 + i)) (eqb (byte table i) 10 || eqb (byte table i) 11) x y
+      → Added (byte table (400 + i)) (eqb (byte table i) 10) y z
+      → (k : ℕ) → member z k ≡ parts-next is-carried (member start) (member s) i (row-at table i) k
   unfolding parts-next is-carried
   carried-in one two k =
-      rw (two k, one k, itself k, ← s, e .kind-is, e .first-is, e .second-is)
-      (spread (mem parts k) so (eqb k i) (eqb kind-byte 10 || eqb kind-byte 11) (eqb k (byte table (200 + i))) (eqb kind-byte 10)
-      (eqb k (byte table (400 + i))))
+      rw (two .at k, one .at k, itself .at k, found, e .kind-is, e .first-is, e .second-is)
+      (spread (member s k) (eqb k i) ((eqb (byte table i) 10 || eqb (byte table i) 11) && eqb k (byte table (200 + i)))
+      (eqb (byte table i) 10 && eqb k (byte table (400 + i))))

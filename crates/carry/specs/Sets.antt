@@ -1,12 +1,13 @@
 -- Sets of term numbers that say which terms have a property.
 use mathlib.Core.Path.{_≡_}
-use mathlib.Core.Bool.{true, false}
+use mathlib.Core.Bool.{Bool, true, false, _||_, _&&_}
 use mathlib.Core.List.{List, List·Memᴰ}
 use mathlib.Core.Logic.{_↔_}
 use Prim.Native.Nat.{ℕ, _≤_, _<_}
 use lib.ListN.{length}
+use lib.Dec.{eqb}
 use Rattle.terms.specs.declared.TermSet.{TermSet}
-use Rattle.terms.specs.Set.{mem}
+use Rattle.terms.specs.Set.{mem, member}
 use Rattle.model.specs.Term.{Term}
 use Rattle.model.specs.Carry.{Carries, Occurs, OnlyWithin}
 use Rattle.model.specs.Subst.{Variable}
@@ -14,6 +15,20 @@ use Rattle.model.specs.Table.{Row, term}
 use Rattle.model.specs.Answers.{Member}
 use Rattle.theory.specs.Within.{Loose}
 use Rattle.theory.specs.Carrying.{Marked}
+use Rattle.carry.specs.Next.{parts-next}
+
+-- the set of these words
+abbrev pub of : List ℕ → TermSet
+of words = record { words = words }
+
+-- the words r have what s have, and t too if it is so
+pub record Added (t : ℕ) (so : Bool) (s r : List ℕ) : Type 0 where
+  pub at : (k : ℕ) → member r k ≡ (member s k || (so && eqb k t))
+
+-- the words r have what s have, and what a visit of the term t, whose row is q, adds
+pub record Visited (part : Row → ℕ → Bool) (start : List ℕ) (t : ℕ) (q : Row) (s r : List ℕ) : Type 0 where
+  pub at : (k : ℕ) → member r k ≡ parts-next part (member start) (member s) t q k
+  pub long : length r ≡ 4
 
 -- of the numbers below n, the set has those with P
 pub record Shows (n : ℕ) (P : ℕ → Type 0) (s : TermSet) : Type 0 where

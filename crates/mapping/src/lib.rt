@@ -188,12 +188,12 @@ fn judge_one(
 }
 
 // The byte that the answer gives a term: its image if it is a member of `variables`.
-fn shown(variables: TermSet, images: &[u8], i: u8) -> u8
-    requires { ⌜ i < length (now images) ⌝ }
-    ensures { λ r. ⌜ r ≡ Rattle.mapping.specs.Written.shown variables (now (images .entry)) i ⌝ }
+fn shown(variables: TermSet, images: &[u8], t: Term) -> u8
+    requires { ⌜ t .0 < length (now images) ⌝ }
+    ensures { λ r. ⌜ r ≡ Rattle.mapping.specs.Written.shown variables (now (images .entry)) (t .0) ⌝ }
 {
-    if variables.has(Term(i)) {
-        return images[i as usize];
+    if variables.has(t) {
+        return images[t.0 as usize];
     }
     NONE
 }
@@ -206,7 +206,7 @@ fn write_images(table: &[u8], images: &[u8], lent: &mut [u8])
 {
     let variables = variables(table);
     for i in 0..table[TERM_COUNT] {
-        lent[i as usize] = shown(variables, images, i);
+        lent[i as usize] = shown(variables, images, Term(i));
     }
 }
 

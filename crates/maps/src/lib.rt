@@ -86,19 +86,20 @@ fn same_directions(table: &[u8], from: usize, to: usize, height: usize) -> bool
 }
 
 // Rule 2 for the source strand `s`, which goes to the target strand `u`.
-fn strand_kept(table: &[u8], source: usize, target: usize, s: usize, u: Strand) -> bool
-    requires { ⌜ Drawn (now table) source × Drawn (now table) target × (s < byte (now table) (source + strand-count))
+fn strand_kept(table: &[u8], source: usize, target: usize, s: Strand, u: Strand) -> bool
+    requires { ⌜ Drawn (now table) source × Drawn (now table) target × (s .0 < byte (now table) (source + strand-count))
         × (u .0 < byte (now table) (target + strand-count)) ⌝ }
-    ensures { λ r. ⌜ (r ≡ true) ↔ StrandKept (now (table .entry)) source target s (u .0) ⌝ }
+    ensures { λ r. ⌜ (r ≡ true) ↔ StrandKept (now (table .entry)) source target (s .0) (u .0) ⌝ }
 {
+    let from = s.0 as usize;
     let to = u.0 as usize;
-    let height = wide(table[source + HEIGHTS + s]);
+    let height = wide(table[source + HEIGHTS + from]);
     if wide(table[target + HEIGHTS + to]) < height {
         return false;
     }
     same_directions(
         table,
-        source + DIRECTIONS + ROOM * s,
+        source + DIRECTIONS + ROOM * from,
         target + DIRECTIONS + ROOM * to,
         height,
     )
@@ -113,7 +114,7 @@ pub fn rule_two(table: &[u8], source: usize, target: usize, map: &[u8]) -> bool
     ensures { λ r. ⌜ (r ≡ true → Laid (now (table .entry)) source target (now (map .entry))) ⌝ }
 {
     for s in 0..map.len() {
-        if !strand_kept(table, source, target, s, Strand(map[s])) {
+        if !strand_kept(table, source, target, Strand(s as u8), Strand(map[s])) {
             return false;
         }
     }
@@ -162,12 +163,12 @@ pub fn rule_four(table: &[u8], source: usize, target: usize, map: &[u8], before:
     true
 }
 
-// Whether the row i has this kind and these arguments.
-fn is_row(table: &[u8], i: u8, kind: u8, first: u8, second: u8) -> bool
-    requires { ⌜ Filled (now table) × (i < byte (now table) term-count) ⌝ }
-    ensures { λ r. ⌜ (r ≡ true) ↔ IsRow (now (table .entry)) kind first second i ⌝ }
+// Whether the row of `t` has this kind and these arguments.
+fn is_row(table: &[u8], t: Term, kind: u8, first: u8, second: u8) -> bool
+    requires { ⌜ Filled (now table) × (t .0 < byte (now table) term-count) ⌝ }
+    ensures { λ r. ⌜ (r ≡ true) ↔ IsRow (now (table .entry)) kind first second (t .0) ⌝ }
 {
-    let at = i as usize;
+    let at = t.0 as usize;
     (table[at] == kind) & (table[FIRSTS + at] == first) & (table[SECONDS + at] == second)
 }
 
@@ -177,7 +178,7 @@ fn look_up(table: &[u8], kind: u8, first: u8, second: u8) -> Image
     ensures { λ r. ⌜ LooksUp (now (table .entry)) kind first second r ⌝ }
 {
     for i in 0..table[TERM_COUNT] {
-        if is_row(table, i, kind, first, second) {
+        if is_row(table, Term(i), kind, first, second) {
             return Image::On(Term(i));
         }
     }

@@ -1,6 +1,6 @@
 -- What a matrix of precedence says of the skeleton whose block begins at b of the table t. Assumes nothing.
-use mathlib.Core.Path.{_≡_, sym, _∙_, ap}
-use mathlib.Core.Bool.{true, true≢false}
+use mathlib.Core.Path.{_≡_, refl, sym, _∙_, ap}
+use mathlib.Core.Bool.{Bool, true, false, true≢false}
 use mathlib.Core.List.{List, List·Memᴰ}
 use mathlib.Core.Logic.{_↔_, _⊎_, ⊎-elim, ⊎-map, inl, inr}
 use Prim.Native.Nat.{ℕ, suc, _+_, _*_, _/_, _%_, _<_, _≤_}
@@ -28,6 +28,21 @@ node-code x l =
     let p : (16 * x .strand + x .position) % 16 ≡ x .position = omega (arith, l .position) in
     rw (s, p)
 
+code-node : (a : ℕ) → code (node a) ≡ a
+code-node a = omega arith
+
+low-node : (a : ℕ) → a < 96 → Low (node a)
+low-node a h = record { strand = omega arith; position = omega arith }
+
+-- rows beyond which nothing is on
+rows-beyond : {n : ℕ} (m : List ℕ) → ((x y : ℕ) → x < 96 → y < 96 → on m x y ≡ true → x / 16 < n) → EmptyFrom (16 * n) m
+rows-beyond {n} m low =
+    record { row = λ x l hx. record { off = λ y hy. not-on (on m x y) (λ e. omega (arith, low x y hx hy e)) } }
+  where
+    not-on : (o : Bool) → (o ≡ true → ⊥) → o ≡ false
+    not-on false h = refl
+    not-on true h = absurd (h refl)
+
 -- some node comes before itself
 pub record Cycle {M : Type 0} (K : Skeleton M) : Type 0 where
   pub node : Node
@@ -44,9 +59,8 @@ cycle-looped {M} {K} {m} shows low = (there, back)
     there : Looped m → Cycle K
     there l =
         let a = l .node in
-        let h : Low (node a) = record { strand = omega (arith, l .row); position = omega arith } in
-        let e : code (node a) ≡ a = omega arith in
-        record { node = node a; cycle = shows .at (node a) (node a) h h .0 (rw e (l .own)) }
+        let h = low-node a (l .row) in
+        record { node = node a; cycle = shows .at (node a) (node a) h h .0 (rw (code-node a) (l .own)) }
 
     back : Cycle K → Looped m
     back c =
@@ -85,6 +99,19 @@ module _ (t : List ℕ) (b : ℕ) where
 
       pub before-low : AllLow (skeleton-at t b)
       before-low = record { at = λ x y p. low p }
+
+      -- what comes before something is on one of the strands
+      drawn : {x y : Node} → Before (skeleton-at t b) x y → x .strand < byte t (b + strand-count)
+      drawn (next {s} {p} l) = next-of s p l .strand
+      drawn (listed q) =
+          let o = pair-of q in rw (ap (λ (w : Node × Node). w .0) (o .is)) (ordered .inside (o .index) (o .below))
+      drawn (chain p q) = drawn p
+
+      -- so the rows beyond the strands are empty, once the matrix is closed
+      pub rows-shown : {m : List ℕ} → Shows (skeleton-at t b) m → EmptyFrom (16 * byte t (b + strand-count)) m
+      rows-shown {m} shows =
+          rows-beyond m (λ x y hx hy e. drawn (shows .at (node x) (node y) (low-node x hx) (low-node y hy) .0
+          (rw (code-node x, code-node y) e)))
 
       along-before : (x y : ℕ) → Along t b x y → Before (skeleton-at t b) (node x) (node y)
       along-before x y w =
@@ -138,20 +165,31 @@ module _ (t : List ℕ) (b : ℕ) where
                   (λ e. rw (node-code x lx, node-code y ly) at (before (both .0 e)), λ p. both .1 (way p));
             }
 
-      -- the closure of succession and the OR pairs, added to nothing
-      pub before-shown : {z s g m : List ℕ} → EmptyFrom 0 z → Adds (Along t b) z s → Adds (Among t b) s g → Closed g m
-          → Shows (skeleton-at t b) m
-      before-shown {z} {s} {g} none along among closed = closed-shows steps closed
-        where
-          strands : (x y : ℕ) → x < 96 → y < 96 → (on s x y ≡ true) → Along t b x y
-          strands x y hx hy e =
-              ⊎-elim
-              (λ o. absurd (true≢false (sym o ∙ none .row x (omega arith) hx .off y hy)))
-              (λ w. w)
-              (along .at x y hx hy .0 e)
+      -- succession and the OR pairs, added to nothing
+      module _ {z s g : List ℕ} (none : EmptyFrom 0 z) (along : Adds (Along t b) z s) (among : Adds (Among t b) s g) where
+        strands : (x y : ℕ) → x < 96 → y < 96 → (on s x y ≡ true) → Along t b x y
+        strands x y hx hy e =
+            ⊎-elim
+            (λ o. absurd (true≢false (sym o ∙ none .row x (omega arith) hx .off y hy)))
+            (λ w. w)
+            (along .at x y hx hy .0 e)
 
-          steps : (x y : ℕ) → x < 96 → y < 96 → (on g x y ≡ true) ↔ (Along t b x y ⊎ Among t b x y)
-          steps x y hx hy = (
-            λ e. ⊎-map (strands x y hx hy) (λ w. w) (among .at x y hx hy .0 e),
-            λ w. among .at x y hx hy .1 (⊎-map (λ a. along .at x y hx hy .1 (inr a)) (λ q. q) w),
-          )
+        steps : (x y : ℕ) → x < 96 → y < 96 → (on g x y ≡ true) ↔ (Along t b x y ⊎ Among t b x y)
+        steps x y hx hy = (
+          λ e. ⊎-map (strands x y hx hy) (λ w. w) (among .at x y hx hy .0 e),
+          λ w. among .at x y hx hy .1 (⊎-map (λ a. along .at x y hx hy .1 (inr a)) (λ q. q) w),
+        )
+
+        -- a pair's first node is on one of the strands
+        starts-drawn : (x y : ℕ) → Among t b x y → x / 16 < byte t (b + strand-count)
+        starts-drawn x y w =
+            let low = ordered .first (w .index) (w .below) in
+            omega (arith, w .starts, low .position, ordered .inside (w .index) (w .below))
+
+        pub rows-stepped : EmptyFrom (16 * byte t (b + strand-count)) g
+        rows-stepped =
+            rows-beyond g (λ x y hx hy e. ⊎-elim (λ w. w .strand) (starts-drawn x y) (steps x y hx hy .0 e))
+
+        -- their closure
+        pub before-shown : {m : List ℕ} → Closed g m → Shows (skeleton-at t b) m
+        before-shown closed = closed-shows steps closed

@@ -44,9 +44,6 @@ words-more m i h none j l =
     ]
 
 -- row by row from the last one down
-pub from-none : (m : List ℕ) → EmptyFrom 96 m
-from-none m = record { row = λ a l ha. absurd (omega arith) }
-
 pub from-more : (m : List ℕ) (n : ℕ) → EmptyFrom n m → Empty m (n - 1) → EmptyFrom (n - 1) m
 from-more m n rest one =
     record {

@@ -9,7 +9,7 @@ use lib.ListN.{getD}
 use Rattle.terms.specs.Set.{bit}
 use Rattle.model.specs.Skeleton.{Node, Skeleton}
 use Rattle.model.specs.Events.{Before}
-use Rattle.tables.specs.Layout.{order-count, orders}
+use Rattle.tables.specs.Layout.{strand-count, order-count, orders}
 use Rattle.tables.specs.Tables.{byte, node-at}
 
 -- whether b is in row a
@@ -28,7 +28,8 @@ pub record Low (n : Node) : Type 0 where
 pub record Shows {M : Type 0} (K : Skeleton M) (m : List ℕ) : Type 0 where
   pub at : (x y : Node) → Low x → Low y → (on m (code x) (code y) ≡ true) ↔ Before K x y
 
--- the OR records of the block at b name nodes that a matrix has rows for
+-- the OR records of the block at b name nodes that a matrix has rows for, the first of each pair on one of the strands
 pub record Ordered (t : List ℕ) (b : ℕ) : Type 0 where
+  pub inside : (i : ℕ) → i < byte t (b + order-count) → node-at t (b + orders + 4 * i) .strand < byte t (b + strand-count)
   pub first : (i : ℕ) → i < byte t (b + order-count) → Low (node-at t (b + orders + 4 * i))
   pub second : (i : ℕ) → i < byte t (b + order-count) → Low (node-at t (b + orders + 4 * i + 2))

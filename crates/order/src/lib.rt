@@ -4,11 +4,11 @@
 ghost use mathlib.Core.Path.{_≡_};
 ghost use mathlib.Core.Bool.{true};
 ghost use mathlib.Core.Logic.{_↔_};
-ghost use Prim.Native.Nat.{_+_, _<_, _≤_};
+ghost use Prim.Native.Nat.{_+_, _*_, _<_, _≤_};
 ghost use lib.ListN.{length};
 ghost use Rattle.model.specs.Says.{node-of};
-ghost use Rattle.tables.specs.Layout.{block-size, table-size};
-ghost use Rattle.tables.specs.Tables.{node-at, skeleton-at, Block, Filled};
+ghost use Rattle.tables.specs.Layout.{strand-count, block-size, table-size};
+ghost use Rattle.tables.specs.Tables.{byte, node-at, skeleton-at, Block, Filled};
 ghost use Rattle.order.specs.Precedence.{on, code, Low, Shows, Ordered};
 ghost use Rattle.order.specs.Matrix.{with-pair, with-row, Empty, EmptyFrom, Adds, Through, Closed, Looped};
 ghost use Rattle.order.specs.Steps.{Along, Among};
@@ -22,9 +22,6 @@ use terms::Node;
 // How many words a matrix takes.
 pub const WORDS: usize = 192;
 
-// How many rows it has.
-const ROWS: usize = 96;
-
 // Fills `before` with what comes before what in the skeleton whose block of the table begins at `block`.
 pub fn precedence(table: &[u8], block: usize, before: &mut [u64])
     requires { ⌜ Filled (now table) × Block (now table) block × (block + block-size ≤ table-size) × Ordered (now table) block
@@ -34,7 +31,7 @@ pub fn precedence(table: &[u8], block: usize, before: &mut [u64])
     clear(before);
     strands(table, block, before);
     orders(table, block, before);
-    close(before);
+    close(before, row_count(table, block));
 }
 
 // Whether the first node comes before the second.
@@ -45,12 +42,14 @@ pub fn is_before(before: &[u64], first: Node, second: Node) -> bool
     has(before, number(first), number(second))
 }
 
-// Whether some node comes before itself.
-pub fn cyclic(before: &[u64]) -> bool
-    requires { ⌜ length (now before) ≡ 192 ⌝ }
+// Whether some node of the skeleton comes before itself. The rows beyond its strands are empty, and not looked at.
+pub fn cyclic(table: &[u8], block: usize, before: &[u64]) -> bool
+    requires { ⌜ Filled (now table) × Block (now table) block × (block + block-size ≤ table-size) × Ordered (now table) block
+        × (length (now before) ≡ 192) × Shows (skeleton-at (now table) block) (now before) ⌝ }
     ensures { λ r. ⌜ (r ≡ true) ↔ Looped (now (before .entry)) ⌝ }
 {
-    for a in 0..ROWS {
+    let n = row_count(table, block);
+    for a in 0..n {
         if has(before, a, a) {
             return true;
         }
@@ -64,6 +63,14 @@ fn number(n: Node) -> usize
     ensures { λ r. ⌜ (r ≡ code (node-of n)) × (r < 96) ⌝ }
 {
     16 * (n.strand.0 as usize) + n.position as usize
+}
+
+// How many rows the strands take.
+fn row_count(table: &[u8], block: usize) -> usize
+    requires { ⌜ (length (now table) ≡ table-size) × Block (now table) block × (block + block-size ≤ table-size) ⌝ }
+    ensures { λ r. ⌜ (r ≡ 16 * byte (now (table .entry)) (block + strand-count)) × (r ≤ 96) ⌝ }
+{
+    16 * wide(table[block + STRAND_COUNT])
 }
 
 // The number of the node whose strand and position are the bytes from `at` on.
@@ -124,7 +131,7 @@ fn strands(table: &[u8], block: usize, m: &mut [u64])
         × (length (now m) ≡ 192) ⌝ }
     ensures { λ r. ⌜ Adds (Along (now (table .entry)) block) (now (m .entry)) (now (m .exit)) ⌝ }
 {
-    for a in 0..16 * wide(table[block + STRAND_COUNT]) {
+    for a in 0..row_count(table, block) {
         if a % 16 + 1 < wide(table[block + HEIGHTS + a / 16]) {
             put(m, a, a + 1);
         }
@@ -145,12 +152,12 @@ fn orders(table: &[u8], block: usize, m: &mut [u64])
     }
 }
 
-// A number of rows after which all are empty.
-fn used(m: &[u64]) -> usize
-    requires { ⌜ length (now m) ≡ 192 ⌝ }
+// A number of rows after which all are empty, as they are from `top` on.
+fn used(m: &[u64], top: usize) -> usize
+    requires { ⌜ (length (now m) ≡ 192) × (top ≤ 96) × EmptyFrom top (now m) ⌝ }
     ensures { λ r. ⌜ (r ≤ 96) × EmptyFrom r (now (m .entry)) ⌝ }
 {
-    let mut n = ROWS;
+    let mut n = top;
     while 0 < n {
         if !empty(m, n - 1) {
             return n;
@@ -175,12 +182,12 @@ fn through(m: &mut [u64], n: usize, k: usize)
     }
 }
 
-// Adds the ways through every node, one after the other.
-fn close(m: &mut [u64])
-    requires { ⌜ length (now m) ≡ 192 ⌝ }
+// Adds the ways through every node, one after the other. From `top` on the rows are empty.
+fn close(m: &mut [u64], top: usize)
+    requires { ⌜ (length (now m) ≡ 192) × (top ≤ 96) × EmptyFrom top (now m) ⌝ }
     ensures { λ r. ⌜ Closed (now (m .entry)) (now (m .exit)) ⌝ }
 {
-    let n = used(m);
+    let n = used(m, top);
     for k in 0..n {
         through(m, n, k);
     }

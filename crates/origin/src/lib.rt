@@ -139,12 +139,12 @@ pub fn first_marked(table: &[u8], block: usize, marks: TermSet, strand: Strand) 
 }
 
 // The first origin on the strands from `from` on.
-fn next_origin(table: &[u8], block: usize, marks: TermSet, from: u8) -> Next
+fn next_origin(table: &[u8], block: usize, marks: TermSet, from: Strand) -> Next
     requires { ⌜ Drawn (now table) block ⌝ }
-    ensures { λ r. ⌜ NextIs (skeleton-at (now (table .entry)) block) (mem marks) from r ⌝ }
+    ensures { λ r. ⌜ NextIs (skeleton-at (now (table .entry)) block) (mem marks) (from .0) r ⌝ }
 {
     let count = table[block + STRAND_COUNT];
-    for s in from..count {
+    for s in from.0..count {
         if let Appears::Sent(p) = first_marked(table, block, marks, Strand(s)) {
             return Next::Here(Node {
                 strand: Strand(s),
@@ -160,10 +160,10 @@ pub fn find_origins(table: &[u8], block: usize, marks: TermSet) -> Origins
     requires { ⌜ Drawn (now table) block ⌝ }
     ensures { λ r. ⌜ OriginatesAs (skeleton-at (now (table .entry)) block) (mem marks) r ⌝ }
 {
-    let Next::Here(node) = next_origin(table, block, marks, 0) else {
+    let Next::Here(node) = next_origin(table, block, marks, Strand(0)) else {
         return Origins::Nowhere;
     };
-    match next_origin(table, block, marks, node.strand.0 + 1) {
+    match next_origin(table, block, marks, Strand(node.strand.0 + 1)) {
         Next::Nowhere => Origins::At(node),
         Next::Here(other) => Origins::Several,
     }

@@ -58,7 +58,7 @@ module _ (bytes : List ℕ) (s : State) (at : ℕ) (R : Reached bytes s at) wher
   pub reached-more : ended s ≡ true → at < length bytes → Read start 0 bytes (fault 8 at)
   reached-more e l = R .onward (fault 8 at) (rw (drop-cons bytes at 0 l) (beyond e))
 
-  pub reached-end : ended s ≡ true → length bytes ≤ at → Read start 0 bytes (read (sheet-of s))
+  reached-end : ended s ≡ true → length bytes ≤ at → Read start 0 bytes (read (sheet-of s))
   reached-end e l = R .onward (read (sheet-of s)) (rw (drop-of-length-le bytes l) (at-end e))
 
 -- the sheet that the table holds
@@ -67,13 +67,18 @@ unfolding reversed drawn-in upto
 turned t zero = refl
 turned t (suc n) = rw (turned t n)
 
-pub sheet-is : (last : ℕ) (t : List ℕ) → sheet-of (state-in last t) ≡ sheet-in t
+sheet-is : (last : ℕ) (t : List ℕ) → sheet-of (state-in last t) ≡ sheet-in t
 unfolding sheet-of sheet-in
 sheet-is last t = rw (turned t (byte t skeleton-count))
 
 pub at-EN : (t : List ℕ) (last : ℕ) → last ≡ 8 → ended (state-in last t) ≡ true
 unfolding ended
 at-EN t last e = rw e
+
+-- the whole sheet is read
+pub reads-sheet : {bytes : List ℕ} (last : ℕ) (t : List ℕ) {at : ℕ} → Reached bytes (state-in last t) at → last ≡ 8
+    → length bytes ≤ at → Read start 0 bytes (read (sheet-in t))
+reads-sheet last t reached e l = rw (← sheet-is last t) (reached-end _ _ _ reached (at-EN t last e) l)
 
 pub not-at-EN : (t : List ℕ) (last : ℕ) → last ≢ 8 → ended (state-in last t) ≡ false
 unfolding ended

@@ -1,16 +1,18 @@
 -- From what each atom is due to the skeleton's first fault. Assumes nothing.
 use mathlib.Core.Path.{_≡_, refl, sym, _∙_}
-use mathlib.Core.List.{List, List·Memᴰ}
+use mathlib.Core.List.{List, List·Memᴰ, List·Memᴰ·not-nil}
 use mathlib.Core.Logic.{_↔_, Iff·trans}
 use mathlib.Core.Bool.{Bool, true, false, true≢false}
-use Prim.Native.Nat.{ℕ, _≤_}
+use Prim.Native.Nat.{ℕ, _+_, _≤_}
 use native.Mathlib.Omega.{arith}
 use Rattle.model.specs.Sheet.{Drawing, meant}
 use Rattle.model.specs.Accepting.{Cyclic, NonRight, UniqRight, NonTurn, UniqTurn}
 use Rattle.model.specs.Accepting as Accepting
 use Rattle.model.specs.Table.{term}
 use Rattle.theory.specs.Happenings.{before-means, before-meant}
-use Rattle.tables.specs.Tables.{byte, rows-in, skeleton-at}
+use Rattle.model.specs.Lists.{upto}
+use Rattle.tables.specs.Layout.{non-count, uniq-count}
+use Rattle.tables.specs.Tables.{byte, rows-in, atoms-at, skeleton-at}
 use Rattle.carry.proofs.Rows.{rows-length}
 use Rattle.order.specs.Precedence.{Shows, Ordered}
 use Rattle.order.specs.Matrix.{Looped}
@@ -54,6 +56,17 @@ module _ {D : Drawing} {a : ℕ} where
       → Passed (UniqRight D) (D .skeleton .uniq) a → UniqsAs D (Fault.Found r a)
   uniq-faulty due n turn listed w =
       UniqsAs.faulty (uniq-fault due n (record { acyclic = turn .acyclic; nons = turn .nons; listed = listed; lower = w .lower }))
+
+-- There are none
+
+module _ (t : List ℕ) (b : ℕ) where
+  pub nons-none : byte t (b + non-count) ≡ 0 → NonsAs (drawing-at t b) Fault.Nothing
+  unfolding skeleton-at atoms-at upto
+  nons-none e = NonsAs.right (λ a m. absurd (List·Memᴰ·not-nil (rw e at m)))
+
+  pub uniqs-none : byte t (b + uniq-count) ≡ 0 → UniqsAs (drawing-at t b) Fault.Nothing
+  unfolding skeleton-at atoms-at upto
+  uniqs-none e = UniqsAs.right (λ a m. absurd (List·Memᴰ·not-nil (rw e at m)))
 
 -- All atoms are passed
 

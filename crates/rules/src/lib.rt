@@ -65,6 +65,9 @@ fn judge_nons(table: &[u8], block: usize, nons: TermSet) -> Fault
         × (¬ Cyclic (meant (drawing (now table) block))) ⌝ }
     ensures { λ r. ⌜ NonsAs (drawing (now (table .entry)) block) r ⌝ }
 {
+    if table[block + NON_COUNT] == 0 {
+        return Fault::Nothing;
+    }
     let messages = origin::messages(table, block);
     let carried = carry::carried_by(table, messages);
     let heard = carry::parts_of(table, messages);
@@ -175,6 +178,9 @@ fn judge_uniqs(table: &[u8], block: usize, before: &[u64], uniqs: TermSet) -> Fa
     requires { ⌜ IsSetOf (skeleton-at (now table) block .uniq) uniqs × UniqsTurn (drawing (now table) block) ⌝ }
     ensures { λ r. ⌜ UniqsAs (drawing (now (table .entry)) block) r ⌝ }
 {
+    if table[block + UNIQ_COUNT] == 0 {
+        return Fault::Nothing;
+    }
     let n = table[TERM_COUNT];
     for i in 0..n {
         if uniqs.has(Term(i)) {
@@ -193,7 +199,7 @@ pub fn judge(table: &[u8], block: usize, before: &[u64]) -> Fault
         × (length (now before) ≡ 192) ⌝ }
     ensures { λ r. ⌜ JudgedAs (drawing (now (table .entry)) block) r ⌝ }
 {
-    if order::cyclic(before) {
+    if order::cyclic(table, block, before) {
         return Fault::Found {
             number: 10,
             place: 0,

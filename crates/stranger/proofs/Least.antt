@@ -14,9 +14,13 @@ module _ {P : Rule → Type 0} {r t : TermSet} (step : Step P (r .words) (t .wor
   grown-more g = grown-then (λ q h. h) (λ q h. h) g (step .grown)
 
   module _ {m n : ℕ} (sizeᵗ : IsSize t n) (sizeʳ : IsSize r m) where
-    pub step-less : ¬ (n ≡ m) → 256 - size t < 256 - size r
+    step-less : ¬ (n ≡ m) → 256 - size t < 256 - size r
     step-less more =
         omega (arith, sizeᵗ .exact, sizeʳ .exact, count-most (mem t) 256, count-grows (mem r) (mem t) (step .grown .grows) 256)
+
+    -- also against a smaller set
+    pub less-than : (s : TermSet) → ((k : ℕ) → Has (s .words) k → Has (r .words) k) → ¬ (n ≡ m) → 256 - size t < 256 - size s
+    less-than s grows more = omega (arith, step-less more, count-grows (mem s) (mem r) grows 256)
 
     -- a step that adds nothing has all
     settled : n ≡ m → (k : ℕ) → Has (t .words) k → Has (r .words) k

@@ -2,7 +2,6 @@
 use mathlib.Core.Path.{_≡_, refl, sym, _∙_}
 use mathlib.Core.Bool.{Bool, true, false, not, cond}
 use mathlib.Core.List.{List, [], _∷_, _++_, Memᴰ·append-right}
-use mathlib.Core.Logic.{inr}
 use Prim.Native.Nat.{ℕ, _+_, _<_}
 use native.Mathlib.Omega.{arith}
 use lib.Dec.{eqb, ltb}
@@ -18,16 +17,16 @@ use Rattle.tables.specs.Tables.{byte, rows-in, Filled}
 use Rattle.keys.specs.Inverted.{Inverted}
 use Rattle.keys.proofs.Rows.{count-is, row-is, EarlierBytes, earlier-bytes}
 use Rattle.stranger.specs.Moves.{free, builds, opens, builds-at, opens-at, moves-at, Opens, Moves}
-use Rattle.stranger.specs.Steps.{Step}
-use Rattle.stranger.proofs.Steps.{step-then}
+use Rattle.stranger.specs.Steps.{Grown, Step}
+use Rattle.stranger.proofs.Steps.{grown-then}
 
--- the rules of all terms, after those that take them apart
-pub both-ways : (t v : List ℕ) {s r x : List ℕ} → Step (Opens t v) s r → Step (Moves t v) r x → Step (Moves t v) s x
+-- taking terms apart is a move, so what it adds is reached by moves
+pub grown-opened : (t v : List ℕ) {s r x : List ℕ} → Grown (Moves t v) s r → Step (Opens t v) r x → Grown (Moves t v) s x
 unfolding moves-at
-both-ways t v =
-    step-then
+grown-opened t v so-far step =
+    grown-then (λ q h. h)
     (λ q h. record { of = h .of; from = h .from; to = h .to; in-list = Memᴰ·append-right (builds-at t (h .of)) (h .in-list) })
-    (λ q h. h) (λ q h. inr h)
+    so-far (step .grown)
 
 -- The rules of a row are that of the start, and its moves
 

@@ -154,27 +154,37 @@ fn move_all(table: &[u8], inverses: &[u8], words: &mut [u64])
     }
 }
 
-// The set after both.
-fn pass(table: &[u8], inverses: &[u8], set: TermSet) -> TermSet
+// The set after the terms are taken apart.
+fn opened(table: &[u8], inverses: &[u8], set: TermSet) -> TermSet
+    requires { ⌜ Filled (now table) × Good (rows-in (now table)) × (length (now inverses) ≡ 200) ⌝ }
+    ensures { λ r. ⌜ Step (Opens (now (table .entry)) (now (inverses .entry))) (set .words) (r .words) ⌝ }
+{
+    let mut words = set.words;
+    open_all(table, inverses, &mut words);
+    TermSet { words }
+}
+
+// The set after they are put together and taken apart.
+fn moved(table: &[u8], inverses: &[u8], set: TermSet) -> TermSet
     requires { ⌜ Filled (now table) × Good (rows-in (now table)) × (length (now inverses) ≡ 200) ⌝ }
     ensures { λ r. ⌜ Step (Moves (now (table .entry)) (now (inverses .entry))) (set .words) (r .words) ⌝ }
 {
     let mut words = set.words;
-    open_all(table, inverses, &mut words);
     move_all(table, inverses, &mut words);
     TermSet { words }
 }
 
-// Goes on until a pass adds nothing.
+// Takes the terms apart, and tries all moves, until these add nothing.
 fn close(table: &[u8], inverses: &[u8], start: TermSet) -> TermSet
     requires { ⌜ Filled (now table) × Good (rows-in (now table)) × (length (now inverses) ≡ 200) ⌝ }
     ensures { λ r. ⌜ Closure (Moves (now (table .entry)) (now (inverses .entry))) (start .words) (r .words) ⌝ }
 {
     let mut set = start;
     loop {
-        let next = pass(table, inverses, set);
-        if next.count() == set.count() {
-            return set;
+        let apart = opened(table, inverses, set);
+        let next = moved(table, inverses, apart);
+        if next.count() == apart.count() {
+            return apart;
         }
         set = next;
     }

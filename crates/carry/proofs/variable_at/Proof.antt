@@ -7,8 +7,8 @@ use Rattle.carry.proofs.variable_at.Tie as tie
 returns : tie.Need-returns
 unfolding is-variable
 returns c =
-    let s = c .before in
-    rw (s .pre .0 .encoded (s .args .i) (s .pre .1) .kind-is)
+    let s = c .before .before in
+    rw (s .pre .0 .encoded (s .args .t .0) (s .pre .1) .kind-is)
 
 pub variable-at-spec : {M : Type 1} → statement M
-variable-at-spec = tie.close (tie.spec (search needs) returns)
+variable-at-spec = tie.close (tie.spec (search needs) (search needs) returns)

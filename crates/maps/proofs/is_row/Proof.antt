@@ -7,4 +7,4 @@ use Rattle.maps.proofs.is_row.Tie as tie
 pub is-row-spec : {M : Type 1} → statement M
 is-row-spec =
     tie.close
-    (tie.spec (search needs) (search needs) (search needs) (search needs) (search needs) (λ c. row-test _ _ _ _ _))
+    (tie.spec (search needs) (search needs) (search needs) (search needs) (search needs) (search needs) (λ c. row-test _ _ _ _ _))

@@ -2,6 +2,7 @@
 use mathlib.Core.Path.{sym}
 use mathlib.Core.Bool.{true≢false}
 use Prim.Native.Nat.{ℕ, _≤_, _<_, _-_}
+use native.Mathlib.Omega.{arith}
 use borrow.Author.Count.{below-none, below-more}
 use borrow.Author.Tests.{not-true, not-false}
 use borrow.Author.Needs.{needs}
@@ -21,6 +22,13 @@ abbrev μ-loop : tie.MeasureT-loop
 
 loop-holds : tie.Need-loop-holds Inv-loop μ-loop
 loop-holds c = (search needs, below-none _)
+
+cast-t8 : tie.Need-cast-t8 Inv-loop μ-loop
+cast-t8 c =
+    let start = c .before .before .before .before in
+    let a = start .args in
+    let all = full (a .table .now) (a .source) (a .target) (a .map .now) (start .pre .1) in
+    omega (arith, start .pre .0 .0 .block .strands)
 
 strand-kept-requires : tie.Need-strand-kept-requires Inv-loop μ-loop
 strand-kept-requires c κs =
@@ -59,5 +67,5 @@ pub rule-two-spec : {M : Type 1} → statement M
 rule-two-spec =
     tie.close
     (tie.spec Inv-loop μ-loop
-    loop-holds (search needs) strand-kept-requires returns (search needs) (search needs) loop-again
+    loop-holds cast-t8 (search needs) strand-kept-requires returns (search needs) (search needs) loop-again
     returns-2)

@@ -11,7 +11,7 @@ returns c = refused (λ k. omega (arith, k .high))
 
 same-directions-requires : tie.Need-same-directions-requires
 same-directions-requires c κs =
-    let p = c .before .before .before .before .before .before .before .pre in
+    let p = c .before .before .before .before .before .before .before .before .pre in
     let low = p .0 .block .low _ (p .2) in
     search needs
 
@@ -22,5 +22,5 @@ pub strand-kept-spec : {M : Type 1} → statement M
 strand-kept-spec =
     tie.close
     (tie.spec (search needs) (search needs) (search needs) (search needs) (search needs) (search needs) (search needs)
-    (search needs) (search needs) returns (search needs) (search needs) (search needs) (search needs) (search needs)
+    (search needs) (search needs) (search needs) returns (search needs) (search needs) (search needs) (search needs) (search needs)
     (search needs) same-directions-requires returns-2)

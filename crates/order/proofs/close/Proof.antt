@@ -8,10 +8,13 @@ use Rattle.order.proofs.close.Statement.{statement}
 use Rattle.order.proofs.close.Tie as tie
 
 abbrev Inv-loop : tie.InvT-loop
-Inv-loop m₀ n k₀ m k = (k ≤ n) × (length m ≡ 192) × Reached m₀ n k m
+Inv-loop m₀ top n k₀ m k = (k ≤ n) × (length m ≡ 192) × Reached m₀ n k m
 
 abbrev μ-loop : tie.MeasureT-loop
-μ-loop m₀ n k₀ m k = n - k
+μ-loop m₀ top n k₀ m k = n - k
+
+used-requires : tie.Need-used-requires Inv-loop μ-loop
+used-requires c κs = c .before .before .pre
 
 loop-holds : tie.Need-loop-holds Inv-loop μ-loop
 loop-holds c = (search needs, search needs, reached-none _ _ (c .used .ensures .1))
@@ -32,4 +35,4 @@ pub close-spec : {M : Type 1} → statement M
 close-spec =
     tie.close
     (tie.spec Inv-loop μ-loop
-    (search needs) loop-holds through-requires (search needs) (search needs) loop-again (search needs) returns)
+    used-requires loop-holds through-requires (search needs) (search needs) loop-again (search needs) returns)

@@ -14,12 +14,15 @@ Inv-loop table block m₀ a₀ a-end m a = (a ≤ 16 * byte table (block + stran
 abbrev μ-loop : tie.MeasureT-loop
 μ-loop table block m₀ a₀ a-end m a = 16 * byte table (block + strand-count) - a
 
+row-count-requires : tie.Need-row-count-requires Inv-loop μ-loop
+row-count-requires c κs = let p = c .before .before .pre in (p .0, p .1, p .2)
+
 loop-holds : tie.Need-loop-holds Inv-loop μ-loop
 loop-holds c = (search needs, strand-none (search needs))
 
 put-requires : tie.Need-put-requires Inv-loop μ-loop
 put-requires c κs =
-    let start = c .before .before .before .before .before .before .before .before .before .before in
+    let start = c .before .before .before .before .before .before .before .before .before in
     let a = c .before .before .before .before .before .loop .a in
     let low = start .pre .1 .low (a / 16) (search needs) in
     search needs
@@ -27,10 +30,10 @@ put-requires c κs =
 loop-again : tie.Need-loop-again Inv-loop μ-loop
 loop-again c =
     let l = c .before .before .before .before .loop in
-    let start = c .before .before .before .before .before .before .before .before .before in
+    let start = c .before .before .before .before .before .before .before .before in
     let strand : l .a / 16 < byte (start .args .table .now) (start .args .block + strand-count) = search needs in
     let low = start .pre .1 .low (l .a / 16) strand in
-    let read = c .before .wide2 .ensures in
+    let read = c .before .wide .ensures in
     ⊎-elim
     (λ w. rw (w .5, w .2 .ensures) (search needs, strand-more (l .inv .1) (search needs) strand (rw read at (w .0 .taken))))
     (λ w. rw (w .1) (search needs, strand-skip (l .inv .1) (rw read at (w .0 .left))))
@@ -43,6 +46,6 @@ pub strands-spec : {M : Type 1} → statement M
 strands-spec =
     tie.close
     (tie.spec Inv-loop μ-loop
-    (search needs) (search needs) (search needs) (search needs) loop-holds (search needs) (search needs)
+    row-count-requires loop-holds (search needs) (search needs)
     (search needs) (search needs) (search needs) (search needs) put-requires (search needs) (search needs) loop-again
     (search needs) returns)

@@ -3,18 +3,18 @@ use Prim.Native.Nat.{_≤_}
 use borrow.Author.Needs.{needs}
 use borrow.Author.Tests.{not-false}
 use Rattle.order.specs.Matrix.{EmptyFrom}
-use Rattle.order.proofs.Rows.{from-none, from-more}
+use Rattle.order.proofs.Rows.{from-more}
 use Rattle.order.proofs.used.Statement.{statement}
 use Rattle.order.proofs.used.Tie as tie
 
 abbrev Inv-loop : tie.InvT-loop
-Inv-loop m n₀ n = (n ≤ 96) × EmptyFrom n m
+Inv-loop m top n₀ n = (n ≤ 96) × EmptyFrom n m
 
 abbrev μ-loop : tie.MeasureT-loop
-μ-loop m n₀ n = n
+μ-loop m top n₀ n = n
 
 loop-holds : tie.Need-loop-holds Inv-loop μ-loop
-loop-holds c = (search needs, from-none _)
+loop-holds c = (search needs, c .before .pre .2)
 
 returns : tie.Need-returns Inv-loop μ-loop
 returns c = c .before .before .before .loop .inv

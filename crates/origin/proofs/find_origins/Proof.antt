@@ -17,8 +17,8 @@ found c = rw (c .node .given .1) at (c .before .before .next-origin .ensures)
 returns : tie.Need-returns
 returns c = none-at-all (rw (c .enum-told .given .1) at (c .before .before .next-origin .ensures))
 
-add-next-origin : tie.Need-add-next-origin
-add-next-origin c =
+add-t9 : tie.Need-add-t9
+add-t9 c =
     let at = c .before .before in
     let low = origin-low (at .before .before .before .before .pre .block) (found at) in search needs
 
@@ -40,7 +40,7 @@ find-origins-spec =
     (search needs)
     (search needs)
     returns
-    add-next-origin
+    add-t9
     (λ c κs. search needs)
     (search needs)
     (search needs)

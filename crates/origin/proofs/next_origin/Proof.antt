@@ -8,10 +8,10 @@ use Rattle.origin.proofs.next_origin.Statement.{statement}
 use Rattle.origin.proofs.next_origin.Tie as tie
 
 abbrev Inv-loop : tie.InvT-loop
-Inv-loop table block marks from count s₀ s = (from ≤ s) × Missing (skeleton-at table block) (mem marks) from s
+Inv-loop table block marks count s₀ s = (s₀ ≤ s) × Missing (skeleton-at table block) (mem marks) s₀ s
 
 abbrev μ-loop : tie.MeasureT-loop
-μ-loop table block marks from count s₀ s = count - s
+μ-loop table block marks count s₀ s = count - s
 
 loop-holds : tie.Need-loop-holds Inv-loop μ-loop
 loop-holds c = (search needs, missing-none)

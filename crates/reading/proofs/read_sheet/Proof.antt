@@ -10,7 +10,7 @@ use Rattle.records.specs.Said.{record-of, said-of, Whole}
 use Rattle.reading.specs.States.{state-in, Underway}
 use Rattle.reading.proofs.Keeps.{at-start}
 use Rattle.reading.proofs.Rooms.{room}
-use Rattle.reading.proofs.Reached.{part, Reached, Step, reached-start, step, reached-fault, reached-more, reached-end, moved, sheet-is, at-EN, not-at-EN}
+use Rattle.reading.proofs.Reached.{part, Reached, Step, reached-start, step, reached-fault, reached-more, reads-sheet, moved, at-EN, not-at-EN}
 use Rattle.reading.proofs.read_sheet.Statement.{statement}
 use Rattle.reading.proofs.read_sheet.Tie as tie
 
@@ -99,7 +99,6 @@ read-sheet-spec =
     (λ c. omega (arith, c .before .before .loop .inv .1 .filled .long))
     (λ c. let l = c .before .before .loop in
     record {
-      reads = rw (← sheet-is (l .last) (l .table))
-          (reached-end _ _ _ (l .inv .0) (at-EN (l .table) (l .last) (c .before .loop-test .left)) (c .if1 .left));
+      reads = reads-sheet (l .last) (l .table) (l .inv .0) (c .before .loop-test .left) (c .if1 .left);
       filled = l .inv .1 .filled;
     }))

@@ -9,6 +9,11 @@ use Rattle.rules.proofs.Faults.{a-cycle, no-cycle, nons-right, nons-fau
 use Rattle.rules.proofs.judge.Statement.{statement}
 use Rattle.rules.proofs.judge.Tie as tie
 
+cyclic-requires : tie.Need-cyclic-requires
+cyclic-requires c κs =
+    let p = c .before .before .pre in
+    (p .0 .filled, p .0 .block, p .0 .inside, p .1, p .3, p .2)
+
 returns : tie.Need-returns
 returns c =
     let pre = c .before .before .before .before .pre in
@@ -49,7 +54,7 @@ pub judge-spec : {M : Type 1} → statement M
 judge-spec =
     tie.close
     (tie.spec
-    (λ c κs. search needs)
+    cyclic-requires
     returns
     (search needs)
     (search needs)

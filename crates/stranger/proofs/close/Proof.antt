@@ -6,7 +6,8 @@ use Rattle.terms.specs.Set.{size}
 use Rattle.stranger.specs.Moves.{Moves}
 use Rattle.stranger.specs.Steps.{Grown}
 use Rattle.stranger.proofs.Steps.{grown-none}
-use Rattle.stranger.proofs.Least.{grown-more, step-less, closure}
+use Rattle.stranger.proofs.Least.{grown-more, less-than, closure}
+use Rattle.stranger.proofs.Tables.{grown-opened}
 use Rattle.stranger.proofs.close.Statement.{statement}
 use Rattle.stranger.proofs.close.Tie as tie
 
@@ -19,21 +20,29 @@ abbrev μ-loop : tie.MeasureT-loop
 loop-holds : tie.Need-loop-holds Inv-loop μ-loop
 loop-holds c = grown-none _ _
 
+-- the set after the terms are taken apart
+apart : (c : tie.After-opened Inv-loop μ-loop) → let l = c .before in
+    Grown (Moves (l .before .before .before .args .table .now) (l .before .before .before .args .inverses .now))
+    (l .before .before .before .args .start .words) (c .opened .result .words)
+apart c = grown-opened _ _ (c .before .loop .inv) (c .opened .ensures)
+
 returns : tie.Need-returns Inv-loop μ-loop
 returns c =
-    let passed = c .before .before .before in
-    closure (passed .pass .ensures) (c .before .before .count .ensures) (c .before .count2 .ensures) (passed .before .loop .inv)
+    let moved = c .before .before .before in
+    closure (moved .moved .ensures) (c .before .before .count .ensures) (c .before .count2 .ensures) (apart (moved .before))
     (c .if1 .taken)
 
 loop-less : tie.Need-loop-less Inv-loop μ-loop
 loop-less c =
-    let counted = c .before .before in
-    step-less (counted .before .pass .ensures) (counted .count .ensures) (c .before .count2 .ensures) (c .if1 .left)
+    let moved = c .before .before .before in
+    less-than (moved .moved .ensures) (c .before .before .count .ensures) (c .before .count2 .ensures)
+    _ (moved .before .opened .ensures .grown .grows) (c .if1 .left)
 
 loop-again : tie.Need-loop-again Inv-loop μ-loop
-loop-again c = let passed = c .before .before .before in grown-more (passed .pass .ensures) (passed .before .loop .inv)
+loop-again c = let moved = c .before .before .before in grown-more (moved .moved .ensures) (apart (moved .before))
 
 pub close-spec : {M : Type 1} → statement M
 close-spec =
     tie.close
-    (tie.spec Inv-loop μ-loop loop-holds (λ c κs. search needs) (search needs) (search needs) returns loop-less loop-again)
+    (tie.spec Inv-loop μ-loop loop-holds (λ c κs. search needs) (λ c κs. search needs) (search needs) (search needs) returns
+    loop-less loop-again)

@@ -17,12 +17,12 @@ read-term-spec =
     tie.close
     (tie.spec
     (λ c κs. search needs)
-    (λ c. record { same = rw (length-rows, ← c .before .terms-in .ensures, le-ltb _ _ (c .if1 .taken)); whole = tt })
-    (λ c. record {
-      same = rw
-          (length-rows, ← c .before .before .terms-in .ensures, lt-ltb _ _ (c .before .if1 .left), lt-leb _ _ (c .if2 .taken));
-      whole =
-          tt;
+    (λ c. let count = c .before .terms-in in
+    record { same = rw (length-rows, ← count .ensures, le-ltb (count .result) 200 (omega arith)); whole = tt })
+    (λ c. let count = c .before .before .terms-in in
+    record {
+      same = rw (length-rows, ← count .ensures, lt-ltb (count .result) 200 (omega arith), lt-leb _ _ (c .if2 .taken));
+      whole = tt;
     })
     (λ c. search needs)
     (λ c. search needs)

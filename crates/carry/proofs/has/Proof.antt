@@ -1,0 +1,13 @@
+-- `carry::has` meets its contract: it computes what `member` says. Assumes nothing.
+use mathlib.Core.Path.{refl}
+use borrow.Author.Needs.{needs}
+use Rattle.terms.specs.Set.{member, bit}
+use Rattle.carry.proofs.has.Statement.{statement}
+use Rattle.carry.proofs.has.Tie as tie
+
+returns : tie.Need-returns
+unfolding member bit
+returns c = refl
+
+pub has-spec : {M : Type 1} → statement M
+has-spec = tie.close (tie.spec (search needs) (search needs) (search needs) (search needs) (search needs) returns)
