@@ -104,7 +104,7 @@ module _ (t : List ℕ) (b : ℕ) where
       drawn : {x y : Node} → Before (skeleton-at t b) x y → x .strand < byte t (b + strand-count)
       drawn (next {s} {p} l) = next-of s p l .strand
       drawn (listed q) =
-          let o = pair-of q in rw (ap (λ (w : Node × Node). w .0) (o .is)) (ordered .inside (o .index) (o .below))
+          let o = pair-of t b q in rw (ap (λ (w : Node × Node). w .0) (o .is)) (ordered .inside (o .index) (o .below))
       drawn (chain p q) = drawn p
 
       -- so the rows beyond the strands are empty, once the matrix is closed
