@@ -60,11 +60,11 @@ module _ {D : Drawing} {a : ℕ} where
 -- There are none
 
 module _ (t : List ℕ) (b : ℕ) where
-  pub nons-none : byte t (b + non-count) ≡ 0 → NonsAs (drawing-at t b) Fault.Nothing
+  pub nons-none : byte t (b + non-count) ≡ 0 → NonsAs (drawing t b) Fault.Nothing
   unfolding skeleton-at atoms-at upto
   nons-none e = NonsAs.right (λ a m. absurd (List·Memᴰ·not-nil (rw e at m)))
 
-  pub uniqs-none : byte t (b + uniq-count) ≡ 0 → UniqsAs (drawing-at t b) Fault.Nothing
+  pub uniqs-none : byte t (b + uniq-count) ≡ 0 → UniqsAs (drawing t b) Fault.Nothing
   unfolding skeleton-at atoms-at upto
   uniqs-none e = UniqsAs.right (λ a m. absurd (List·Memᴰ·not-nil (rw e at m)))
 
