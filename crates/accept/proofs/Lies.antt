@@ -1,7 +1,7 @@
 -- The skeletons of a sheet that lies in a table, and that their OR records name nodes of a matrix. Assumes nothing.
 use mathlib.Core.Path.{_≡_, refl}
 use mathlib.Core.List.{List, List·Memᴰ, Memᴰ·append-right}
-use Prim.Native.Nat.{ℕ, _<_}
+use Prim.Native.Nat.{ℕ, _<_, _+_}
 use native.Mathlib.Omega.{arith}
 use lib.ListN.{length}
 use Rattle.model.specs.Table.{term}
@@ -13,7 +13,7 @@ use Rattle.theory.specs.Skeletons.{IsSkeleton}
 use Rattle.theory.specs.Precedence as Precedence
 use Rattle.theory.specs.Precedence.{edges, all-steps}
 use Rattle.theory.specs.OnTable.{OnTable}
-use Rattle.tables.specs.Layout.{block, skeleton-count}
+use Rattle.tables.specs.Layout.{block, skeleton-count, strand-count}
 use Rattle.tables.specs.Tables.{byte, rows-in, skeleton-at, skeleton-in, sheet-in, Block, Filled}
 use Rattle.tables.specs.Drawn.{drawing, Drawn}
 use Rattle.tables.proofs.Look.{length-strands}
