@@ -9,7 +9,6 @@ ghost use Rattle.bench.specs.Steps.{StrandsOf, lines-upto, SkeletonTold,
 use accept::Accepted;
 use accept::BEFORE;
 use accept::INVERSES;
-use accept::TABLE;
 use accept::accept;
 use judge::list;
 use judge::realized;
@@ -22,6 +21,7 @@ use lines::sheet_line;
 use lines::skeleton_line;
 use model::ListAnswer;
 use model::SheetAnswer;
+use tables::TABLE;
 use tables::blocks::strands_in;
 
 // What the list is lent, and what the longest report needs: four lines of at most 72 bytes, and for each byte of the list
