@@ -6,7 +6,7 @@ use std::hint::black_box;
 use std::time::Instant;
 
 use sheets::builder::Sheet;
-use sheets::{chain, example, generate, longest, questions, shared, Question};
+use sheets::{chain, example, generate, longest, questions, shared, six_by_six, Question};
 
 /// The goal: the judge takes at most this many times as long as the second program.
 const MOST: f64 = 2.0;
@@ -17,6 +17,9 @@ const NANOSECONDS: f64 = 1_000_000.0;
 
 /// The sizes of the sheets that grow.
 const SIZES: [usize; 4] = [25, 50, 100, 190];
+
+/// Space for the most maps: 6 to the 6th, 6 bytes each.
+const LISTED: usize = 279_936;
 
 /// A question with its sheet and the bytes that it is lent.
 struct Asked {
@@ -35,7 +38,7 @@ fn main() {
     let mut kept = true;
     let mut row = |name: &str, asked: Vec<Asked>| kept &= row(name, asked);
     for question in about_the_example() {
-        let name = format!("{}: the 105-byte sheet", name(&question));
+        let name = format!("{}: the 105-byte sheet", question.name());
         row(&name, vec![asked(example(), question)]);
     }
     row(
@@ -43,7 +46,7 @@ fn main() {
         vec![asked(longest(), Question::Sheet)],
     );
     for question in about_the_example() {
-        let name = name(&question);
+        let name = question.name();
         row(&format!("{name}: 1,000 generated sheets"), generated(name));
     }
     let growing: [(&str, fn(usize) -> Vec<u8>); 2] =
@@ -64,6 +67,33 @@ fn main() {
         "every ratio is at most {MOST}: {}",
         if kept { "yes" } else { "no" }
     );
+    lists();
+}
+
+/// The list over fifty sheets of 6 strands against 6: the time of the worst, and of all.
+fn lists() {
+    let six = |number| Asked {
+        sheet: six_by_six(number),
+        question: Question::List {
+            source: 0,
+            target: 1,
+            lent: LISTED,
+        },
+        lent: vec![0; LISTED],
+    };
+    let mut all: Vec<Asked> = (0..50).map(six).collect();
+    let mut times = |ask: Ask| -> Vec<f64> {
+        let one = |asked: &mut Asked| batch(ask, std::slice::from_mut(asked), 1) / 1e6;
+        all.iter_mut().map(one).collect()
+    };
+    for (who, ask) in [("judge", ours as Ask), ("second", theirs as Ask)] {
+        let taken = times(ask);
+        let worst = taken.iter().copied().fold(0.0, f64::max);
+        let sum: f64 = taken.iter().sum();
+        println!(
+            "list: fifty sheets, 6 strands against 6, {who}: worst {worst:.1} ms, all {sum:.1} ms"
+        );
+    }
 }
 
 fn asked(sheet: Vec<u8>, question: Question) -> Asked {
@@ -75,7 +105,7 @@ fn asked(sheet: Vec<u8>, question: Question) -> Asked {
     }
 }
 
-/// A question of each kind about the 105-byte sheet. The list is to be added here once the judge takes it.
+/// A question of each kind but the list about the 105-byte sheet.
 fn about_the_example() -> Vec<Question> {
     let (skeleton, node) = (1, (0, 1));
     vec![
@@ -106,7 +136,7 @@ fn generated(kind: &str) -> Vec<Asked> {
     let about = |index| {
         let sheet = generate(1, index);
         let all = questions(1, index, &sheet).into_iter();
-        let these = all.filter(|question| name(question) == kind);
+        let these = all.filter(|question| question.name() == kind);
         these.map(move |question| asked(sheet.clone(), question))
     };
     (0..1_000).flat_map(about).collect()
@@ -119,18 +149,6 @@ fn last_reach(sheet: &[u8]) -> Question {
     Question::Reach {
         skeleton: 0,
         node: *receptions.last().expect("a reception"),
-    }
-}
-
-fn name(question: &Question) -> &'static str {
-    match question {
-        Question::Sheet => "sheet",
-        Question::Within { .. } => "within",
-        Question::Derivable { .. } => "derivable",
-        Question::Reach { .. } => "reach",
-        Question::Realized { .. } => "realized",
-        Question::Map { .. } => "map",
-        Question::List { .. } => "list",
     }
 }
 
@@ -155,7 +173,9 @@ fn ours(asked: &mut Asked) -> u64 {
             map,
             ..
         } => proved::map(sheet, *source, *target, map, &mut asked.lent),
-        Question::List { .. } => 0,
+        Question::List { source, target, .. } => {
+            proved::list(sheet, *source, *target, &mut asked.lent)
+        }
     }
 }
 
@@ -180,7 +200,9 @@ fn theirs(asked: &mut Asked) -> u64 {
             map,
             ..
         } => second::map(sheet, *source, *target, map, &mut asked.lent),
-        Question::List { .. } => 0,
+        Question::List { source, target, .. } => {
+            second::list(sheet, *source, *target, &mut asked.lent)
+        }
     }
 }
 
