@@ -37,7 +37,8 @@ judged-right : {D : Drawing} {f : Fault} → JudgedAs D f → f ≡ Fault.Nothin
 judged-right (JudgedAs.right r) e = r
 judged-right (JudgedAs.faulty x) e = let z : _≡_ {A = ℕ} 0 1 = cc in absurd (omega arith)
 
-pub right-more : (t : List ℕ) (k : ℕ) {f : Fault} → RightBelow t k → JudgedAs (drawing t (block k)) f → f ≡ Fault.Nothing → RightBelow t (k + 1)
+pub right-more : (t : List ℕ) (k : ℕ) {f : Fault} → RightBelow t k → JudgedAs (drawing t (block k)) f → f ≡ Fault.Nothing
+    → RightBelow t (k + 1)
 right-more t k r g e = record { at = λ j h. go j h (decLt j k) }
   where
     go : (j : ℕ) → j < k + 1 → Dec (j < k) → Right (drawing t (block j))
@@ -55,9 +56,11 @@ module _ (t : List ℕ) (whole : (i : ℕ) → ¬ Lacking (rows-in t) i) where
 
   pub all-right : RightBelow t (byte t skeleton-count) → JudgedAll (sheet-in t) Accepted.Good
   all-right r =
-      JudgedAll.right (Accepting.right no-lacking (λ k D h. sheet-right t (byte t skeleton-count) r k D (skeleton-lies t k D h .inside) h))
+      JudgedAll.right
+      (Accepting.right no-lacking (λ k D h. sheet-right t (byte t skeleton-count) r k D (skeleton-lies t k D h .inside) h))
 
-  pub one-faulty : (k number place p : ℕ) {f : Fault} → k < byte t skeleton-count → RightBelow t k → JudgedAs (drawing t (block k)) f
+  pub one-faulty : (k number place p : ℕ) {f : Fault} → k < byte t skeleton-count → RightBelow t k
+      → JudgedAs (drawing t (block k)) f
       → f ≡ Fault.Found number place
       → p ≡ place
       → JudgedAll (sheet-in t) (Accepted.Refused (record { number = number; place = p; skeleton = k }))
@@ -74,7 +77,13 @@ module _ (t : List ℕ) (whole : (i : ℕ) → ¬ Lacking (rows-in t) i) where
 
 pub fair-rows : (t : List ℕ) → Filled t → Raw (sheet-in t) → Fair (rows-in t)
 unfolding sheet-in rows-of
-fair-rows t f r = record { few = rw length-upto (f .terms); earlier-args = r .earlier; sorted-args = r .sorted; distinct = r .distinct }
+fair-rows t f r =
+    record {
+      few = rw length-upto (f .terms);
+      earlier-args = r .earlier;
+      sorted-args = r .sorted;
+      distinct = r .distinct;
+    }
 
 module _ (t : List ℕ) (f : Filled t) (r : Raw (sheet-in t)) (whole : (i : ℕ) → ¬ Lacking (rows-in t) i) where
   pub all-drawn : AllDrawn t
@@ -99,7 +108,8 @@ pub keys-paired : {rows : List Row} {inverses : List ℕ} {k : Keys} → Paired 
 keys-paired (Paired.all n i) e = (n, i)
 keys-paired (Paired.lacks l f) e = let z : _≡_ {A = ℕ} 0 1 = cc in absurd (omega arith)
 
-pub keys-lack : (t inverses : List ℕ) (w : Term) (p : ℕ) {k : Keys} → Paired (rows-in t) inverses k → k ≡ Keys.Without w → p ≡ w .0
+pub keys-lack : (t inverses : List ℕ) (w : Term) (p : ℕ) {k : Keys} → Paired (rows-in t) inverses k → k ≡ Keys.Without w
+    → p ≡ w .0
     → SheetAs t inverses (Accepted.Refused (record { number = 9; place = p; skeleton = 0 }))
 unfolding refusal-of sheet-in
 keys-lack t inverses w p (Paired.all n i) e q = let z : _≡_ {A = ℕ} 0 1 = cc in absurd (omega arith)
@@ -108,14 +118,16 @@ keys-lack t inverses w p (Paired.lacks {t = u} l f) e q =
     let b : u ≡ p = a ∙ back q in
     SheetAs.faulty (Accepting.lacks (rw b at l) (rw b at f))
 
-pub sheet-as : (t inverses : List ℕ) {r : Accepted} → Inverted (rows-in t) inverses → length inverses ≡ 200 → JudgedAll (sheet-in t) r
+pub sheet-as : (t inverses : List ℕ) {r : Accepted} → Inverted (rows-in t) inverses → length inverses ≡ 200
+    → JudgedAll (sheet-in t) r
     → SheetAs t inverses r
 sheet-as t inverses i l (JudgedAll.right a) = SheetAs.right a i l
 sheet-as t inverses i l (JudgedAll.faulty a) = SheetAs.faulty a
 
 -- from the bytes
 
-pub faulty-read : (bytes t inverses : List ℕ) (number place : ℕ) {r : Reading} → ReadInto bytes r t → r ≡ Reading.Faulty number place
+pub faulty-read : (bytes t inverses : List ℕ) (number place : ℕ) {r : Reading} → ReadInto bytes r t
+    → r ≡ Reading.Faulty number place
     → AcceptedAs bytes t inverses (Accepted.Refused (record { number = number; place = place; skeleton = 0 }))
 unfolding refusal-of
 faulty-read bytes t inverses number place i e = AcceptedAs.refused (unread (rw e at (i .reads)))
@@ -123,11 +135,18 @@ faulty-read bytes t inverses number place i e = AcceptedAs.refused (unread (rw e
 pub was-read : {bytes t : List ℕ} {r : Reading} → ReadInto bytes r t → r ≡ Reading.Read → Read start 0 bytes (read (sheet-in t))
 was-read i e = rw e at (i .reads)
 
-pub accepted-as : (bytes t inverses : List ℕ) {r : Accepted} → Read start 0 bytes (read (sheet-in t)) → Filled t → SheetAs t inverses r
+pub accepted-as : (bytes t inverses : List ℕ) {r : Accepted} → Read start 0 bytes (read (sheet-in t)) → Filled t
+    → SheetAs t inverses r
     → AcceptedAs bytes t inverses r
 accepted-as bytes t inverses d f (SheetAs.right a i l) =
     AcceptedAs.good (record { verdict = judged d a; filled = f; inverted = i; inverses-long = l })
 accepted-as bytes t inverses d f (SheetAs.faulty a) = AcceptedAs.refused (judged d a)
 
 pub held-stored : {bytes t inverses : List ℕ} → Held bytes t inverses → Stored t inverses
-held-stored h = record { sound = verdict-sound (h .verdict); filled = h .filled; inverted = h .inverted; inverses-long = h .inverses-long }
+held-stored h =
+    record {
+      sound = verdict-sound (h .verdict);
+      filled = h .filled;
+      inverted = h .inverted;
+      inverses-long = h .inverses-long;
+    }

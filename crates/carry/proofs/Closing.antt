@@ -14,6 +14,7 @@ use Rattle.terms.specs.Set.{mem, member}
 use Rattle.terms.proofs.Words.{member-none}
 use Rattle.model.specs.Carry.{Occurs, Carries}
 use Rattle.model.specs.Table.{Row, row, term}
+use Rattle.tables.proofs.Look.{count-is, row-in}
 use Rattle.theory.specs.Tests.{both, pair-up, or-cases, or-left, or-right}
 use Rattle.theory.specs.Parts.{occurs-after}
 use Rattle.theory.specs.GoodTable.{Good}
@@ -24,7 +25,7 @@ use Rattle.carry.specs.Next.{has-first, has-second, is-part, is-carried,
 use Rattle.carry.specs.Sets.{Added, Shows, EndsBy, InMember, IsParts, CarriedIn, IsCarried}
 use Rattle.terms.proofs.Listed.{empty}
 use Rattle.carry.proofs.Shown.{is-T}
-use Rattle.carry.proofs.Rows.{rows-length, inside-in, row-in}
+use Rattle.carry.proofs.Rows.{inside-in}
 use Rattle.carry.proofs.Parts.{part-occurs, has-occurring, part-carried, has-carried, carries-after}
 
 -- what the set has once the terms from i on were visited: terms with P, and with a term its arguments with `part`
@@ -185,7 +186,7 @@ module _ (rows : List Row) (good : Good rows) (start : TermSet) where
 pub begins-at : {table : List ℕ} {part : Row → ℕ → Bool} {P : ℕ → Type 0} (start : TermSet) {top : ℕ} → Filled table
     → EndsBy (byte table 600) top start → Closing part P (rows-in table) start top empty
 begins-at {table} {part} {P} start {top} filled ends =
-    closing-none part P (rows-in table) start top (rw (rows-length table) ends)
+    closing-none part P (rows-in table) start top (rw (count-is table) ends)
 
 -- no term is as late as the count
 pub ends-last : (n : ℕ) (start : TermSet) → EndsBy n n start

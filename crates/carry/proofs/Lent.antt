@@ -15,6 +15,7 @@ use Rattle.terms.proofs.Listed.{set-more}
 use Rattle.model.specs.Term.{Term}
 use Rattle.model.specs.Table.{Row, term}
 use Rattle.model.specs.Answers.{Member}
+use Rattle.tables.proofs.Look.{count-is}
 use Rattle.theory.specs.Deciding.{dec-to}
 use Rattle.theory.specs.GoodTable.{Good}
 use Rattle.theory.specs.Numbers.{number, number-term, number-found}
@@ -23,7 +24,6 @@ use Rattle.theory.specs.Carrying.{Marked}
 use Rattle.tables.specs.Tables.{byte, rows-in, Filled}
 use Rattle.carry.specs.Sets.{AreTerms, IsLoose, WithinLent}
 use Rattle.carry.proofs.Shown.{is-T}
-use Rattle.carry.proofs.Rows.{rows-length}
 
 -- The numbers passed so far: one more, all
 
@@ -98,5 +98,5 @@ pub within-in : {table : List ℕ} {t t′ : ℕ} {S : List ℕ} {set s : TermSe
     → AreTerms (byte table 600) t t′ S → IsSetOf S set → IsLoose (rows-in table) set t s → b ≡ mem s t′
     → (not b ≡ true) ↔ WithinLent (rows-in table) t t′ S
 within-in {table} {t} {t′} {S} {b = b} filled good terms is loose e =
-    let all : AreTerms (length (rows-in table)) t t′ S = rw (rows-length table) terms in
+    let all : AreTerms (length (rows-in table)) t t′ S = rw (count-is table) terms in
     within-law good all is b loose e

@@ -13,6 +13,7 @@ use Rattle.terms.proofs.Words.{member-none}
 use Rattle.model.specs.Term.{Term}
 use Rattle.model.specs.Carry.{Carries}
 use Rattle.model.specs.Table.{Row, Pair, Enc, row, kind, first, second, meaning, term}
+use Rattle.tables.proofs.Look.{row-in}
 use Rattle.theory.specs.Tests.{both, pair-up, or-cases, or-left, or-right}
 use Rattle.theory.specs.GoodTable.{Good, Earlier}
 use Rattle.theory.specs.Numbers.{row-of, law, number, term-injective, row-is}
@@ -23,7 +24,7 @@ use Rattle.carry.specs.Sets.{Shows, IsLoose, IsCarriers}
 use Rattle.carry.specs.Next.{part-carries, loose-next}
 use Rattle.terms.proofs.Listed.{empty}
 use Rattle.carry.proofs.Shown.{is-T, shows-same}
-use Rattle.carry.proofs.Rows.{inside-in, row-in}
+use Rattle.carry.proofs.Rows.{inside-in}
 
 -- the term t is carried outside the set in u
 abbrev pub Free : List Row → TermSet → ℕ → Term → Type 0

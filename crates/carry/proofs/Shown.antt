@@ -11,22 +11,19 @@ use Rattle.terms.specs.declared.TermSet.{TermSet}
 use Rattle.terms.specs.Set.{mem}
 use Rattle.terms.proofs.Words.{member-none}
 use Rattle.terms.proofs.Listed.{empty}
+use Rattle.theory.specs.Tests.{bool-false}
 use Rattle.carry.specs.Sets.{Shows}
 
 pub is-T : (b : Bool) → (b ≡ true) ↔ T b
 is-T true = (λ e. tt, λ h. refl)
 is-T false = (λ e. absurd (true≢false (sym e)), λ h. absurd h)
 
-not-true-false : (b : Bool) → ¬ (b ≡ true) → b ≡ false
-not-true-false true n = absurd (n refl)
-not-true-false false n = refl
-
 pub shows-none : (P : ℕ → Type 0) → Shows 0 P empty
 shows-none P = record { at = λ k. (λ e. absurd (true≢false (sym e ∙ member-none k)), λ h. absurd (omega arith)) }
 
 module _ {P : ℕ → Type 0} {i : ℕ} {s : TermSet} (shows : Shows i P s) where
   not-yet : mem s i ≡ false
-  not-yet = not-true-false (mem s i) (λ e. omega (arith, shows .at i .0 e .0))
+  not-yet = bool-false (mem s i) (λ e. omega (arith, shows .at i .0 e .0))
 
   pub shows-more : {r : TermSet} (b : Bool) → ((b ≡ true) ↔ P i) → ((k : ℕ) → mem r k ≡ (mem s k || (b && eqb k i)))
       → Shows (i + 1) P r

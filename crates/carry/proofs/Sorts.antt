@@ -9,12 +9,13 @@ use lib.ListN.{length}
 use Rattle.model.specs.Term.{Term}
 use Rattle.model.specs.Subst.{Variable, a-mesg, a-text, a-datum, a-name, an-skey, an-akey}
 use Rattle.model.specs.Table.{Row, Mesg, Text, Datum, Name, Skey, Akey, row, kind, meaning, term}
+use Rattle.tables.proofs.Look.{row-in}
 use Rattle.theory.specs.GoodTable.{Good}
 use Rattle.theory.specs.Numbers.{row-of, law, number, row-is}
 use Rattle.tables.specs.Tables.{byte, row-at, rows-in, Filled}
 use Rattle.carry.specs.Next.{is-variable}
 use Rattle.carry.proofs.Shown.{is-T}
-use Rattle.carry.proofs.Rows.{inside-in, row-in}
+use Rattle.carry.proofs.Rows.{inside-in}
 
 module _ (rows : List Row) (good : Good rows) (i : ℕ) (inside : i < length rows) where
   row-variable : (r : Row) → row rows i ≡ r → T (is-variable r) → Variable (term rows i)

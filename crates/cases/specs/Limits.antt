@@ -74,31 +74,28 @@ pub orders-limited : Limited orders
 unfolding orders verdict-of
 orders-limited = record { read = verdict-of _ .is; passed = verdict-of _ .is }
 
--- "32 NO"
-unfoldable pub nons : Limit
-unfolding hex times tags
-nons =
+-- "32 NO", "32 UO"
+unfoldable pub atoms : List ℕ → Limit
+unfolding hex times
+atoms one =
     record {
       head = hex "4253 01 / 544d 020000 / 534b / 5354 01 0000";
-      counted = λ n. times n (hex "4e4f 00");
+      counted = λ n. times n one;
       most = 32;
       place = 111;
     }
+
+unfoldable pub nons : Limit
+unfolding hex atoms
+nons = atoms (hex "4e4f 00")
 
 pub nons-limited : Limited nons
 unfolding nons verdict-of
 nons-limited = record { read = verdict-of _ .is; passed = verdict-of _ .is }
 
--- "32 UO"
 unfoldable pub uniqs : Limit
-unfolding hex times tags
-uniqs =
-    record {
-      head = hex "4253 01 / 544d 020000 / 534b / 5354 01 0000";
-      counted = λ n. times n (hex "554f 00");
-      most = 32;
-      place = 111;
-    }
+unfolding hex atoms
+uniqs = atoms (hex "554f 00")
 
 pub uniqs-limited : Limited uniqs
 unfolding uniqs verdict-of

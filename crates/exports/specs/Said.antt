@@ -6,7 +6,8 @@ use Rattle.model.specs.Skeleton.{Node}
 use Rattle.model.specs.Sheet.{Verdict}
 use Rattle.model.specs.Answers.{Answer, Gives}
 
-pub record SaidAs (bytes : List ℕ) {A : Type 0} (Question : Verdict → Answer A → List ℕ → Type 0) (word-of : Answer A → ℕ) (after : List ℕ)
+pub record SaidAs (bytes : List ℕ) {A : Type 0} (Question : Verdict → Answer A → List ℕ → Type 0) (word-of : Answer A → ℕ)
+    (after : List ℕ)
     (r : ℕ) : Type 0 where
   pub answer : Answer A
   pub gives : Gives bytes Question answer after

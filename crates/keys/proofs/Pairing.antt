@@ -11,6 +11,7 @@ use lib.Seq.{getD-set-same, getD-set-other}
 use borrow.Author.Tests.{eq-eqb, eqb-true, eqb-false}
 use Rattle.model.specs.Table.{Row, Tag, Mesg, Text, Datum, Name, Skey, Akey, Pubk, Inv, Ltk, Pair, Enc, Hash, row, kind, is-key}
 use Rattle.model.specs.Accepting.{Lacking}
+use Rattle.tables.proofs.Look.{count-is, row-in, kind-is}
 use Rattle.theory.specs.Find.{find, find-le, find-at}
 use Rattle.theory.specs.GoodTable.{row-same, IsKey, an-akey, a-pubk, Sorted}
 use Rattle.theory.specs.Reach.{inverse-of, inverse-at}
@@ -20,8 +21,8 @@ use Rattle.tables.specs.Tables.{byte, the-row, rows-in, Filled}
 use Rattle.keys.specs.declared.Keys.{Keys}
 use Rattle.keys.specs.Inverted.{Inverted, Paired, all}
 use Rattle.keys.specs.Partners.{Own, Partner, of-inverse, of-key, of-other, Partners}
-use Rattle.keys.proofs.Tests.{both-true}
-use Rattle.keys.proofs.Rows.{count-is, row-is, kind-is, earlier-bytes}
+use Rattle.theory.specs.Tests.{both-true}
+use Rattle.keys.proofs.Rows.{earlier-bytes}
 
 module _ (rows : List Row) where
   pub no-row-yet : {n : ℕ} {l : List ℕ} → length rows ≡ n → Own n l → Partners rows 0 l
@@ -151,7 +152,7 @@ module _ (t : List ℕ) (j : ℕ) (f : Filled t) (h : j < byte t term-count) whe
 
   inverse-row : byte t j ≡ 8 → row (rows-in t) j ≡ Inv (byte t (firsts + j))
   unfolding the-row
-  inverse-row e = row-is t j h ∙ rw e
+  inverse-row e = row-in t j h ∙ rw e
 
   pub byte-paired : {l : List ℕ} → Fair (rows-in t) → byte t j ≡ 8 → Partners (rows-in t) j l
       → Partners (rows-in t) (j + 1) (set (set l j (byte t (firsts + j))) (byte t (firsts + j)) j)

@@ -37,7 +37,8 @@ module _ (base : ℕ) (some : 0 < base) where
   unfolding digits
   digits-rise zero c d l h = absurd (omega (arith, pow-zero base))
   digits-rise (suc n) c d l h =
-      go (ℕ-discrete (c / base ^ n) (d / base ^ n)) (λ e. digits-rise n (c % base ^ n) (d % base ^ n) (mod-grows c d (base ^ n) l e) (mod-lt d (positive n)))
+      go (ℕ-discrete (c / base ^ n) (d / base ^ n))
+      (λ e. digits-rise n (c % base ^ n) (d % base ^ n) (mod-grows c d (base ^ n) l e) (mod-lt d (positive n)))
     where
       go : Dec (c / base ^ n ≡ d / base ^ n)
           → (c / base ^ n ≡ d / base ^ n → InDictionary (digits n base (c % base ^ n)) (digits n base (d % base ^ n)))
@@ -73,8 +74,10 @@ module _ (base : ℕ) (some : 0 < base) where
       let p : ℕ = base ^ length l in
       let low : Low l = λ s k. h (suc s) (omega arith) in
       let v : value l < p = value-low l low in
-      let q : (value l + x * p) / p ≡ x = add-mul-div-right (value l) x (positive (length l)) ∙ ap (λ y. y + x) (div-eq-of-lt v) ∙ omega arith in
-      let r : (value l + x * p) % p ≡ value l = ap (λ y. y % p) (omega arith) ∙ mul-add-mod-self-right x p (value l) ∙ mod-eq-of-lt v in
+      let q : (value l + x * p) / p ≡ x =
+      add-mul-div-right (value l) x (positive (length l)) ∙ ap (λ y. y + x) (div-eq-of-lt v) ∙ omega arith in
+      let r : (value l + x * p) % p ≡ value l =
+      ap (λ y. y % p) (omega arith) ∙ mul-add-mod-self-right x p (value l) ∙ mod-eq-of-lt v in
       rw (q, r, digits-value l low)
 
   -- those that pass
@@ -88,7 +91,8 @@ module _ (base : ℕ) (some : 0 < base) where
 
     one-more : (b : Bool) (c : ℕ) (l : List ℕ) → test c ≡ b → List·Memᴰ l (cond b (digits n base c ∷ []) []) → Passes (suc c) l
     one-more true c l e m =
-        ⊎-elim (λ q. record { number = c; below = omega arith; passes = e; is = q }) (λ q. absurd (List·Memᴰ·not-nil q)) (List·Memᴰ·cases-cons m)
+        ⊎-elim (λ q. record { number = c; below = omega arith; passes = e; is = q }) (λ q. absurd (List·Memᴰ·not-nil q))
+        (List·Memᴰ·cases-cons m)
     one-more false c l e m = absurd (List·Memᴰ·not-nil m)
 
     passing-passes : (c : ℕ) (l : List ℕ) → List·Memᴰ l (passing n base test c) → Passes c l
@@ -96,7 +100,12 @@ module _ (base : ℕ) (some : 0 < base) where
     passing-passes zero l m = absurd (List·Memᴰ·not-nil m)
     passing-passes (suc c) l m =
         ⊎-elim
-        (λ k. let p = passing-passes c l k in record { number = p .number; below = omega (arith, p .below); passes = p .passes; is = p .is })
+        (λ k. let p = passing-passes c l k in record {
+          number = p .number;
+          below = omega (arith, p .below);
+          passes = p .passes;
+          is = p .is;
+        })
         (λ k. one-more (test c) c l refl k) (List·Memᴰ·append-cases (passing n base test c) m)
 
     passes-passing : (c : ℕ) (l : List ℕ) → Passes c l → List·Memᴰ l (passing n base test c)
@@ -122,7 +131,8 @@ module _ (base : ℕ) (some : 0 < base) where
         → Rising InDictionary (l ++ (x ∷ []))
     rising-more [] x r h = more (λ y m. absurd (List·Memᴰ·not-nil m)) none
     rising-more (z ∷ l) x (more f r) h =
-        more (λ y m. ⊎-elim (f y) (λ k. ⊎-elim (λ e. rw e (h z (List·Memᴰ·head refl))) (λ q. absurd (List·Memᴰ·not-nil q)) (List·Memᴰ·cases-cons k))
+        more (λ y m. ⊎-elim (f y)
+        (λ k. ⊎-elim (λ e. rw e (h z (List·Memᴰ·head refl))) (λ q. absurd (List·Memᴰ·not-nil q)) (List·Memᴰ·cases-cons k))
         (List·Memᴰ·append-cases l m))
         (rising-more l x r (λ y m. h y (List·Memᴰ·tail m)))
 
@@ -145,7 +155,8 @@ module _ (base : ℕ) (some : 0 < base) where
 
 -- THE LIST: the candidates that are maps
 module _ (A B : Skeleton Term) (base : ℕ) (some : 0 < base) (wide : length (B .strands) ≡ base) (test : ℕ → Bool)
-    (decides : (c : ℕ) → c < base ^ length (A .strands) → (test c ≡ true) ↔ IsStrandMap A B (digits (length (A .strands)) base c)) where
+    (decides : (c : ℕ) → c < base ^ length (A .strands) → (test c ≡ true) ↔ IsStrandMap A B
+    (digits (length (A .strands)) base c)) where
   abbrev n : ℕ
   n = length (A .strands)
 
@@ -163,7 +174,8 @@ module _ (A B : Skeleton Term) (base : ℕ) (some : 0 < base) (wide : length (B 
       record {
         rising = passing-rises base some n test (base ^ n) (omega arith);
         members = λ bytes. (
-          λ m. let p = passing-passes base some n test (base ^ n) bytes m in rw (p .is) (decides (p .number) (p .below) .0 (p .passes)),
+          λ m. let p = passing-passes base some n test (base ^ n) bytes m in rw (p .is)
+              (decides (p .number) (p .below) .0 (p .passes)),
           λ m. passes-passing base some n test (base ^ n) bytes (map-number bytes m),
         );
       }

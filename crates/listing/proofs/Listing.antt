@@ -12,6 +12,7 @@ use Rattle.model.specs.Skeleton.{Skeleton, means}
 use Rattle.model.specs.Sheet.{Verdict, Drawing, meant}
 use Rattle.model.specs.Maps.{TheMaps}
 use Rattle.model.specs.Answers.{Answer, refused, refusal, no-such, too-short, said, HasSkeletons, ListRoom, AskList}
+use Rattle.theory.specs.Tests.{both-true}
 use Rattle.theory.specs.NoSecond.{maps-one}
 use Rattle.theory.specs.Places.{in-list}
 use Rattle.theory.specs.Encoding.{WithinLimits}
@@ -24,7 +25,7 @@ use Rattle.accept.proofs.Lies.{has-skeleton}
 use Rattle.list.specs.Candidates.{passing}
 use Rattle.list.specs.Found.{marked}
 use Rattle.list.proofs.Numbered.{listed-maps}
-use Rattle.mapping.proofs.Asking.{both-true, one-lacks, both-there}
+use Rattle.mapping.proofs.Asking.{one-lacks, both-there}
 use Rattle.listing.specs.Found.{strands, MarkedBelow, GivenAs}
 
 -- every skeleton of a sheet that was read has a strand

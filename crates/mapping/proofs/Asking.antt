@@ -9,10 +9,11 @@ use lib.ListN.{length}
 use Rattle.model.specs.Sheet.{Verdict, Drawing, meant}
 use Rattle.model.specs.Answers.{Answer, Mapping, is-map, breaks, refused, answered, refusal, no-such, too-short, said}
 use Rattle.model.specs.Answers.{HasSkeletons, ImageRoom, yes-map, no-map, AskMap}
+use Rattle.tables.proofs.Look.{count-is}
+use Rattle.theory.specs.Tests.{both-true}
 use Rattle.theory.specs.GoodTable.{Good}
 use Rattle.tables.specs.Layout.{block, skeleton-count, term-count}
 use Rattle.tables.specs.Tables.{byte, rows-in, skeleton-in, sheet-in}
-use Rattle.keys.proofs.Rows.{count-is}
 use Rattle.accept.specs.Held.{Stored}
 use Rattle.accept.proofs.Lies.{has-skeleton, skeleton-lies, is-drawn, is-right, or-ordered}
 use Rattle.tables.specs.Drawn.{drawing}
@@ -20,10 +21,6 @@ use Rattle.mapping.specs.Listed.{AtomsListed}
 use Rattle.mapping.specs.Judged.{Asked, JudgedAs}
 use Rattle.mapping.specs.Written.{Written}
 use Rattle.mapping.proofs.Writing.{images-written}
-
-pub both-true : (a b : Bool) → (a && b) ≡ true → (a ≡ true) × (b ≡ true)
-both-true true b e = (refl, e)
-both-true false b e = absurd (true≢false (sym e))
 
 pub not-both : (a b : Bool) → (a && b) ≡ false → a ≡ true → b ≡ true → ⊥
 not-both a b e p q = true≢false (sym (rw (p, q) refl) ∙ e)

@@ -1,8 +1,7 @@
 -- The answers of the rules' tests give the first broken rule, or a map. Assumes nothing.
-use mathlib.Core.Path.{_≡_, refl, sym, _∙_}
-use mathlib.Core.Bool.{Bool, true, false, true≢false}
+use mathlib.Core.Path.{_≡_, refl, _∙_}
+use mathlib.Core.Bool.{Bool, true, false}
 use mathlib.Core.List.{List}
-use mathlib.Core.Logic.{_↔_}
 use Prim.Native.Nat.{ℕ, suc, _≤_}
 use native.Mathlib.Omega.{arith}
 use lib.ListN.{length, length-map}
@@ -11,6 +10,7 @@ use Rattle.model.specs.Subst.{Subst}
 use Rattle.model.specs.Table.{Row, term}
 use Rattle.model.specs.Skeleton.{Skeleton, means}
 use Rattle.model.specs.Maps.{OneByteEach, Rule2, Rule4, Kept, Upto, FirstBroken}
+use Rattle.theory.specs.Tests.{was-no}
 use Rattle.theory.specs.Substituting.{plain}
 use Rattle.theory.specs.NoSecond.{upto-less}
 use Rattle.tables.specs.Tables.{byte}
@@ -22,9 +22,6 @@ use Rattle.maps.specs.Images.{Ready}
 use Rattle.maps.specs.Atoms.{Matched}
 use Rattle.mapping.specs.declared.Atoms.{Atoms}
 use Rattle.mapping.specs.Judged.{Asked, Prepared, JudgedAs}
-
-was-no : {b : Bool} {P : Type 0} → (b ≡ true) ↔ P → b ≡ false → ¬ P
-was-no test e p = true≢false (sym (test .1 p) ∙ e)
 
 -- the rules up to k hold, and the next does not
 first : (A B : Skeleton Term) (map : List ℕ) (k : ℕ) → suc k ≤ 6 → {σ : Subst} → Kept A B map k σ → ¬ Upto A B map (suc k)

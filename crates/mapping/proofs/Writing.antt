@@ -15,6 +15,7 @@ use Rattle.model.specs.Subst.{Subst}
 use Rattle.model.specs.Skeleton.{Skeleton, means}
 use Rattle.model.specs.Maps.{Images}
 use Rattle.model.specs.Answers.{over}
+use Rattle.theory.specs.Tests.{bool-false}
 use Rattle.theory.specs.Upto.{length-upto, upto-at}
 use Rattle.theory.specs.Faults.{variable-test}
 use Rattle.tables.specs.Tables.{byte}
@@ -56,10 +57,6 @@ is-shown variables images i e q p = p ∙ sym (shown-in variables images i (sym 
 pub not-shown : (variables : TermSet) (images : List ℕ) (i : ℕ) {b : Bool} → b ≡ mem variables i → b ≡ false
     → 255 ≡ shown variables images i
 not-shown variables images i e q = sym (shown-out variables images i (sym e ∙ q))
-
-bool-false : (b : Bool) → ¬ (b ≡ true) → b ≡ false
-bool-false true n = absurd (n refl)
-bool-false false n = refl
 
 module _ {rows : List Row} {images lent after : List ℕ} where
   pub all-written : {variables : TermSet} {n : ℕ} → IsVariables rows variables → n ≡ length rows

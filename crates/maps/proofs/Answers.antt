@@ -1,5 +1,5 @@
 -- What an answer yes or no says. Assumes nothing.
-use mathlib.Core.Path.{_≡_, refl, sym, _∙_}
+use mathlib.Core.Path.{_≡_, refl, sym}
 use mathlib.Core.Bool.{Bool, true, false, true≢false, Bool·beq}
 use mathlib.Core.Logic.{_↔_}
 use Prim.Native.Nat.{ℕ}
@@ -11,9 +11,6 @@ granted p = (λ e. p, λ q. refl)
 
 pub refused : {P : Type 0} → ¬ P → (false ≡ true) ↔ P
 refused n = (λ e. absurd (true≢false (sym e)), λ p. absurd (n p))
-
-pub was-no : {b : Bool} {P : Type 0} → (b ≡ true) ↔ P → b ≡ false → ¬ P
-was-no test e p = true≢false (sym (test .1 p) ∙ e)
 
 pub equal-iff : (a b : Bool) → (Bool·beq a b ≡ true) ↔ (a ≡ b)
 equal-iff true true = granted refl

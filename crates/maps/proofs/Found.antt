@@ -1,6 +1,6 @@
 -- The row of a kind with its arguments, and the images of atoms. Assumes nothing.
 use mathlib.Core.Path.{_≡_, refl, sym, ap, ap₂, _∙_}
-use mathlib.Core.Bool.{Bool, true, false, _&&_, true≢false}
+use mathlib.Core.Bool.{true, false, _&&_}
 use mathlib.Core.List.{List}
 use mathlib.Core.Logic.{_↔_, _≢_}
 use Prim.Native.Nat.{ℕ, _+_, _<_, _≤_}
@@ -14,7 +14,8 @@ use Rattle.model.specs.Carry.{Occurs, in-inverse, in-pubk, in-ltk-left, in-ltk-
 use Rattle.model.specs.Subst.{Subst, turned, on-sym, on-asym, on-atom, apply, Variable}
 use Rattle.model.specs.Table.{Row, Text, Datum, Name, Skey, Akey, Pubk, Inv, Ltk, row, kind, first, second, is-atom, name-of, meaning, term}
 use Rattle.model.specs.Reading.{an-atom}
-use Rattle.theory.specs.Tests.{both, pair-up}
+use Rattle.tables.proofs.Look.{count-is, row-in, kind-is}
+use Rattle.theory.specs.Tests.{both, pair-up, both-true}
 use Rattle.theory.specs.Parts.{occurs-after}
 use Rattle.model.specs.Laws.{inv-inv}
 use Rattle.model.specs.Laws.{inv-apply}
@@ -26,15 +27,11 @@ use Rattle.theory.specs.Reach.{inverse-at, inverse-law}
 use Rattle.tables.specs.Layout.{firsts, seconds, term-count}
 use Rattle.tables.specs.Tables.{byte, the-row, row-at, rows-in}
 use Rattle.keys.specs.Inverted.{Inverted}
-use Rattle.keys.proofs.Rows.{count-is, row-is, kind-is, EarlierBytes, earlier-bytes}
+use Rattle.keys.proofs.Rows.{EarlierBytes, earlier-bytes}
 use Rattle.maps.specs.declared.Image.{Image}
 use Rattle.maps.specs.Images.{IsRow, LooksUp, found, missing, Ready, IsImage, on, off, Gives, Known, Imaged}
 
 -- The test of a row
-
-pub both-true : (a b : Bool) → (a && b) ≡ true → (a ≡ true) × (b ≡ true)
-both-true true b e = (refl, e)
-both-true false b e = absurd (true≢false (sym e))
 
 pub row-test : (t : List ℕ) (k a b i : ℕ)
     → (((eqb (byte t i) k && eqb (byte t (firsts + i)) a) && eqb (byte t (seconds + i)) b) ≡ true) ↔ IsRow t k a b i
@@ -95,12 +92,12 @@ module _ {t images : List ℕ} (ready : Ready t images) where
 
   -- the row of three bytes, and the three bytes of a row
   row-found : {k a b i : ℕ} → i < byte t term-count → IsRow t k a b i → row rows i ≡ the-row k a b
-  row-found {i = i} h is = row-is t i h ∙ rw (is .kind, is .first, is .second)
+  row-found {i = i} h is = row-in t i h ∙ rw (is .kind, is .first, is .second)
 
   row-has : (i : ℕ) → i < byte t term-count → {r : Row} → row rows i ≡ r → IsRow t (kind r) (first r) (second r) i
   row-has i h {r} e =
       let c = ready .filled .encoded i h in
-      let q : row-at t i ≡ r = sym (row-is t i h) ∙ e in
+      let q : row-at t i ≡ r = sym (row-in t i h) ∙ e in
       record {
         kind = sym (c .kind-is) ∙ ap kind q;
         first = sym (c .first-is) ∙ ap first q;
@@ -181,7 +178,7 @@ module _ {t images : List ℕ} (ready : Ready t images) where
     unfolding the-row Earlier Sorted meaning apply on-atom on-asym turned row-of name-of kind first second
     public-image {r} e up =
         let x = byte t (firsts + a) in
-        let q : row rows a ≡ Pubk x = row-is t a h ∙ rw e in
+        let q : row rows a ≡ Pubk x = row-in t a h ∙ rw e in
         let l : x < a = rw q at (ready .good .earlier a here) in
         let n : IsName (row rows x) = rw q at (ready .good .sorted a here) in
         let m : term rows a ≡ atom (asymmetric false (pubk (name-of (term rows x)))) = law rows (ready .good) a here q in
@@ -199,7 +196,7 @@ module _ {t images : List ℕ} (ready : Ready t images) where
     long-term-image {r} e up =
         let x = byte t (firsts + a) in
         let y = byte t (seconds + a) in
-        let q : row rows a ≡ Ltk x y = row-is t a h ∙ rw e in
+        let q : row rows a ≡ Ltk x y = row-in t a h ∙ rw e in
         let l : (x < a) × (y < a) = rw q at (ready .good .earlier a here) in
         let n : IsName (row rows x) × IsName (row rows y) = rw q at (ready .good .sorted a here) in
         let m : term rows a ≡ atom (symmetric (ltk (name-of (term rows x)) (name-of (term rows y)))) =
@@ -224,7 +221,7 @@ module _ {t images : List ℕ} (ready : Ready t images) where
 
       inverse-row : row rows a ≡ Inv key
       unfolding the-row
-      inverse-row = row-is t a h ∙ rw e
+      inverse-row = row-in t a h ∙ rw e
 
       key-low : key < length rows
       key-low = omega (arith, args-low e tt .first, here)

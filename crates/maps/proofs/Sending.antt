@@ -18,6 +18,8 @@ use Rattle.model.specs.Reading.{an-atom}
 use Rattle.model.specs.Skeleton.{Node, Skeleton, means}
 use Rattle.model.specs.Events.{Origin}
 use Rattle.model.specs.Maps.{move, Rule5, Rule6}
+use Rattle.theory.specs.Tests.{was-no, both-true}
+use Rattle.tables.proofs.Look.{count-is}
 use Rattle.theory.specs.GoodTable.{Good}
 use Rattle.theory.specs.Numbers.{term-injective}
 use Rattle.theory.specs.OnSheet.{OnSheet}
@@ -27,14 +29,13 @@ use Rattle.theory.specs.Faults.{occurs-test}
 use Rattle.theory.specs.MapLaws.{VariablesOccur, AtomsOccur, skeleton-atoms}
 use Rattle.tables.specs.Layout.{term-count}
 use Rattle.tables.specs.Tables.{byte, rows-in}
-use Rattle.keys.proofs.Rows.{count-is}
 use Rattle.matching.specs.Matches.{Takes}
 use Rattle.maps.specs.declared.Image.{Image}
 use Rattle.maps.specs.Rules.{Tells5, Tells6, IsOrigins}
 use Rattle.maps.specs.Images.{Ready, Gives, Known, Imaged}
 use Rattle.maps.specs.Atoms.{In, Moved, Asks, GoesIn, OriginGoes, Matched, Judges5, Judges6}
-use Rattle.maps.proofs.Answers.{granted, refused, was-no}
-use Rattle.maps.proofs.Found.{both-true, on-sheet, off-sheet}
+use Rattle.maps.proofs.Answers.{granted, refused}
+use Rattle.maps.proofs.Found.{on-sheet, off-sheet}
 
 -- One atom
 

@@ -7,6 +7,7 @@ use native.Mathlib.Decide.{ℕ-discrete}
 use lib.ListN.{length, getD}
 use Rattle.model.specs.Skeleton.{Event, Node, message, At}
 use Rattle.model.specs.Reading.{event}
+use Rattle.tables.proofs.Look.{count-is}
 use Rattle.theory.specs.Each.{Each, each-nil, each-cons, each-append}
 use Rattle.theory.specs.OnTable.{OnTable}
 use Rattle.theory.specs.Matching.{Wish}
@@ -18,7 +19,6 @@ use Rattle.tables.proofs.Nodes.{stands-at, said-at}
 use Rattle.matching.specs.Matches.{Laid}
 use Rattle.matching.specs.Ready.{Messages}
 use Rattle.matching.specs.Pass.{gather, one-wish, strand-wishes, wishes}
-use Rattle.matching.proofs.Rows.{count-is}
 
 -- The members of lists, from f i on
 
@@ -78,7 +78,7 @@ module _ {t : List ℕ} (filled : Filled t) {a b : ℕ} (A : Drawn t a) (B : Dra
           long = filled .long;
           sources = omega (arith, A .block .strands, A .inside);
           targets = omega (arith, B .block .strands, B .inside);
-          terms = λ i m. omega (arith, said-low t a (A .on-table) s i l m, count-is filled, filled .terms);
+          terms = λ i m. omega (arith, said-low t a (A .on-table) s i l m, count-is t, filled .terms);
         }
 
     module _ (p : ℕ) (k : p < byte t (a + heights + s)) where

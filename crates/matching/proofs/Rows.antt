@@ -1,38 +1,18 @@
 -- The bytes of the table that a row of it stands for, and the arguments that a row has.
-use mathlib.Core.Path.{_≡_, refl, ap, _∙_}
+use mathlib.Core.Path.{_≡_, refl}
 use mathlib.Core.Bool.{true, cond, _&&_}
 use mathlib.Core.List.{List, [], _∷_}
 use Prim.Native.Nat.{ℕ, _+_, _<_}
 use lib.Dec.{T, eqb, leb, le→leb}
-use lib.ListN.{length}
 use Rattle.model.specs.Table.{Row, Tag, Mesg, Text, Datum, Name, Skey, Akey, Pubk, Inv, Ltk, Pair, Enc, Hash}
 use Rattle.model.specs.Table.{row, kind, first, second}
-use Rattle.theory.specs.Upto.{length-upto, upto-at}
+use Rattle.tables.proofs.Look.{count-is, kind-is, first-is, second-is}
 use Rattle.theory.specs.GoodTable.{Good, Earlier}
 use Rattle.theory.specs.Reach.{inverse-at}
 use Rattle.theory.specs.Matching.{Wish, parts}
 use Rattle.tables.specs.Layout.{firsts, seconds, term-count}
-use Rattle.tables.specs.Tables.{byte, row-at, rows-of, rows-in, Filled}
+use Rattle.tables.specs.Tables.{byte, rows-in, Filled}
 use Rattle.matching.specs.Pass.{first-to, second-wishes}
-
-module _ {t : List ℕ} (filled : Filled t) where
-  pub count-is : length (rows-in t) ≡ byte t term-count
-  unfolding rows-of
-  count-is = length-upto (byte t term-count) (row-at t)
-
-  module _ (i : ℕ) (h : i < byte t term-count) where
-    pub row-is : row (rows-in t) i ≡ row-at t i
-    unfolding rows-of
-    row-is = upto-at (byte t term-count) (row-at t) (Tag 0) i h
-
-    pub kind-at : kind (row (rows-in t) i) ≡ byte t i
-    kind-at = ap kind row-is ∙ filled .encoded i h .kind-is
-
-    pub first-at : first (row (rows-in t) i) ≡ byte t (firsts + i)
-    first-at = ap first row-is ∙ filled .encoded i h .first-is
-
-    pub second-at : second (row (rows-in t) i) ≡ byte t (seconds + i)
-    second-at = ap second row-is ∙ filled .encoded i h .second-is
 
 -- Arguments are earlier terms
 
@@ -53,17 +33,17 @@ second-earlier i (Enc a c) h b = b .1
 
 module _ {t : List ℕ} (filled : Filled t) (good : Good (rows-in t)) (i : ℕ) (h : i < byte t term-count) where
   abbrev there : Earlier i (row (rows-in t) i)
-  there = good .earlier i (rw (count-is filled) h)
+  there = good .earlier i (rw (count-is t) h)
 
   pub first-low : 6 < byte t i → byte t (firsts + i) < i
   first-low e =
-      let q : T (leb 7 (kind (row (rows-in t) i))) = rw (kind-at filled i h) (le→leb 7 (byte t i) e) in
-      rw (first-at filled i h) at (first-earlier i (row (rows-in t) i) q there)
+      let q : T (leb 7 (kind (row (rows-in t) i))) = rw (kind-is t i filled h) (le→leb 7 (byte t i) e) in
+      rw (first-is t i filled h) at (first-earlier i (row (rows-in t) i) q there)
 
   pub second-low : (leb 9 (byte t i) && leb (byte t i) 11) ≡ true → byte t (seconds + i) < i
   second-low e =
-      let q : T (leb 9 (kind (row (rows-in t) i)) && leb (kind (row (rows-in t) i)) 11) = rw (kind-at filled i h, e) tt in
-      rw (second-at filled i h) at (second-earlier i (row (rows-in t) i) q there)
+      let q : T (leb 9 (kind (row (rows-in t) i)) && leb (kind (row (rows-in t) i)) 11) = rw (kind-is t i filled h, e) tt in
+      rw (second-is t i filled h) at (second-earlier i (row (rows-in t) i) q there)
 
 module _ (rows : List Row) (t : ℕ) where
   -- what the first argument of a row goes to, and the wish for its second one

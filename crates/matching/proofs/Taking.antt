@@ -14,6 +14,7 @@ use Rattle.model.specs.Table.{Row, term}
 use Rattle.model.specs.Skeleton.{Event, send, recv, message, Node, Skeleton, At, means, on-message}
 use Rattle.model.specs.Events.{InSomeEvent}
 use Rattle.model.specs.Maps.{move, Rule3}
+use Rattle.tables.proofs.Look.{count-is}
 use Rattle.theory.specs.Each.{Each}
 use Rattle.theory.specs.Places.{not-there}
 use Rattle.theory.specs.Parts.{occurs-after}
@@ -27,7 +28,6 @@ use Rattle.matching.specs.Matches.{Laid, Takes, Matches}
 use Rattle.tables.specs.Drawn.{Drawn}
 use Rattle.matching.specs.Ready.{Ready}
 use Rattle.matching.specs.Pass.{and-then, demands, pass, part-wishes, wishes, Blank, Ends}
-use Rattle.matching.proofs.Rows.{count-is}
 use Rattle.matching.proofs.Nodes.{said, event-at, source-low, target-low, in-wishes, each-wish}
 use Rattle.matching.proofs.Occurrences.{part-occurs, goes-down}
 use Rattle.matching.proofs.Decided.{Posed, outcome, asked-low, args-low, only, has-outcome}
@@ -97,7 +97,7 @@ module _ {t inverses : List ℕ} (ready : Ready t inverses) {a b : ℕ} (A : Dra
       (source-low (ready .filled) A B laid s h p k, target-low (ready .filled) A B laid s h p k)
 
   few : length rows ≤ 200
-  few = rw (count-is (ready .filled)) (ready .filled .terms)
+  few = rw (count-is t) (ready .filled .terms)
 
   -- A term that occurs in a source event, by a wish for what it occurs in
 
@@ -183,5 +183,5 @@ module _ {t inverses : List ℕ} (ready : Ready t inverses) {a b : ℕ} (A : Dra
     -- THE OUTCOME OF THE PASS IS MAP RULE 3
     pub decided : {m : List ℕ} {r : Bool} → Ends (and-then (demands asked l) (pass rows (byte t term-count))) m r
         → Matches rows (skeleton-at t a) (skeleton-at t b) map m r
-    decided {r = true} e = taken (rw (count-is (ready .filled)) (e .gives))
-    decided {r = false} e = refused (rw (count-is (ready .filled)) (e .gives))
+    decided {r = true} e = taken (rw (count-is t) (e .gives))
+    decided {r = false} e = refused (rw (count-is t) (e .gives))

@@ -27,7 +27,8 @@ module _ (rows : List Row) (A B : Skeleton ℕ) (map : List ℕ) where
   -- the answer, and an image for each term that occurs in a source event, 255 elsewhere
   pub record Matches (images : List ℕ) (r : Bool) : Type 0 where
     pub holds : (r ≡ true) ↔ ((σ : Subst) × Takes σ)
-    pub inside : r ≡ true → (i : ℕ) → i < length rows → InSomeEvent (means (term rows) A) (term rows i) → byte images i < length rows
+    pub inside : r ≡ true → (i : ℕ) → i < length rows → InSomeEvent (means (term rows) A) (term rows i)
+        → byte images i < length rows
     pub image : r ≡ true → (σ : Subst) → Takes σ → (i : ℕ) → i < length rows → InSomeEvent (means (term rows) A) (term rows i)
         → term rows (byte images i) ≡ apply σ (term rows i)
     pub elsewhere : r ≡ true → (i : ℕ) → i < length rows → ¬ InSomeEvent (means (term rows) A) (term rows i) → byte images i ≡ 255

@@ -33,7 +33,8 @@ module _ {X A : Type 0} (Subject : Sheet → X → Type 0) (Room : X → Type 0)
     bad-sheet : {r : Refusal} → Asked (Verdict.refused r) (refused r) lent
     no-such : {s : Sheet} → ((x : X) → ¬ Subject s x) → Asked (Verdict.accepted s) (refused (refusal 15)) lent
     too-short : {s : Sheet} {x : X} → Subject s x → ¬ Room x → Asked (Verdict.accepted s) (refused (refusal 16)) lent
-    said : {s : Sheet} {x : X} {a : A} {after : List ℕ} → Subject s x → Room x → Says x a after → Asked (Verdict.accepted s) (answered a) after
+    said : {s : Sheet} {x : X} {a : A} {after : List ℕ} → Subject s x → Room x → Says x a after
+        → Asked (Verdict.accepted s) (answered a) after
 
 -- a question that lends nothing to write in
 abbrev pub Always : {X : Type 0} → X → Type 0
@@ -48,7 +49,8 @@ unfoldable pub over : List ℕ → List ℕ → List ℕ
 over written lent = written ++ drop (length written) lent
 
 -- for these bytes the question gives this answer and leaves the lent memory so: what a public contract says
-pub record Gives (bytes : List ℕ) {A : Type 0} (Question : Verdict → Answer A → List ℕ → Type 0) (answer : Answer A) (after : List ℕ) : Type 0 where
+pub record Gives (bytes : List ℕ) {A : Type 0} (Question : Verdict → Answer A → List ℕ → Type 0) (answer : Answer A)
+    (after : List ℕ) : Type 0 where
   pub verdict : Verdict
   pub judged : HasVerdict bytes verdict
   pub is : Question verdict answer after
@@ -169,7 +171,8 @@ module _ (source target : ℕ) where
 
     -- "Yes writes one byte per term .. bytes beyond stay. No gives the first broken rule below and writes nothing."
     pub data SaysMap (x : Drawing × Drawing) : Mapping → List ℕ → Type 0 where
-      yes-map : {σ : Subst} {images : List ℕ} → Kept (meant (x .0)) (meant (x .1)) bytes 6 σ → Images (x .0 .rows) (meant (x .0)) σ images
+      yes-map : {σ : Subst} {images : List ℕ} → Kept (meant (x .0)) (meant (x .1)) bytes 6 σ
+          → Images (x .0 .rows) (meant (x .0)) σ images
           → SaysMap x is-map (over images lent)
       no-map : {rule : ℕ} → FirstBroken (meant (x .0)) (meant (x .1)) bytes rule → SaysMap x (breaks rule) lent
 

@@ -21,14 +21,16 @@ module _ (K : Skeleton Term) where
     pub said : Term
     pub at : At K n (send said)
     pub carries : Carries t said
-    pub first : (p : ℕ) (e : Event Term) → p < n .position → At K (record { strand = n .strand; position = p }) e → ¬ Carries t (message e)
+    pub first : (p : ℕ) (e : Event Term) → p < n .position → At K (record { strand = n .strand; position = p }) e
+        → ¬ Carries t (message e)
 
   -- the same of a reception
   pub record Taken (t : Term) (n : Node) : Type 0 where
     pub heard : Term
     pub at : At K n (recv heard)
     pub carries : Carries t heard
-    pub first : (p : ℕ) (e : Event Term) → p < n .position → At K (record { strand = n .strand; position = p }) e → ¬ Carries t (message e)
+    pub first : (p : ℕ) (e : Event Term) → p < n .position → At K (record { strand = n .strand; position = p }) e
+        → ¬ Carries t (message e)
 
   -- How a term first appears on a strand
   pub data Appearance : Type 0 where
@@ -36,7 +38,8 @@ module _ (K : Skeleton Term) where
     in-send in-reception : ℕ → Appearance
 
   pub data Appears (t : Term) (s : ℕ) : Appearance → Type 0 where
-    nowhere : ((p : ℕ) (e : Event Term) → At K (record { strand = s; position = p }) e → ¬ Carries t (message e)) → Appears t s not-carried
+    nowhere : ((p : ℕ) (e : Event Term) → At K (record { strand = s; position = p }) e → ¬ Carries t (message e))
+        → Appears t s not-carried
     first-sent : {p : ℕ} → Origin t (record { strand = s; position = p }) → Appears t s (in-send p)
     first-taken : {p : ℕ} → Taken t (record { strand = s; position = p }) → Appears t s (in-reception p)
 

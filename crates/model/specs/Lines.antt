@@ -28,9 +28,11 @@ decimal x = digits (suc x) x
 -- "sheet good terms 9 skeletons 2"; "sheet refused N place P skeleton K"
 unfoldable pub sheet-line : Answer Counts → List ℕ
 unfolding ascii decimal
-sheet-line (answered c) = ascii "sheet good terms " ++ decimal (c .terms) ++ ascii " skeletons " ++ decimal (c .skeletons) ++ ascii "\n"
+sheet-line (answered c) =
+    ascii "sheet good terms " ++ decimal (c .terms) ++ ascii " skeletons " ++ decimal (c .skeletons) ++ ascii "\n"
 sheet-line (refused r) =
-    ascii "sheet refused " ++ decimal (r .number) ++ ascii " place " ++ decimal (r .place) ++ ascii " skeleton " ++ decimal (r .skeleton) ++ ascii "\n"
+    ascii "sheet refused " ++ decimal (r .number) ++ ascii " place " ++ decimal (r .place)
+    ++ ascii " skeleton " ++ decimal (r .skeleton) ++ ascii "\n"
 
 -- "skeleton 0 open at 0 1"; "skeleton 1 realized"
 unfoldable pub skeleton-line : ℕ → Openness → List ℕ

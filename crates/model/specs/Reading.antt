@@ -271,7 +271,8 @@ ended s = is-end (s .last)
 pub data Read : State → ℕ → List ℕ → Reading → Type 0 where
   at-end : {s : State} {place : ℕ} → ended s ≡ true → Read s place [] (read (sheet-of s))
   beyond : {s : State} {place b : ℕ} {l : List ℕ} → ended s ≡ true → Read s place (b ∷ l) (fault 8 place)
-  at-fault : {s : State} {place n : ℕ} {rest : List ℕ} → ended s ≡ false → read-record s rest ≡ refuse n → Read s place rest (fault n place)
+  at-fault : {s : State} {place n : ℕ} {rest : List ℕ} → ended s ≡ false → read-record s rest ≡ refuse n
+      → Read s place rest (fault n place)
   next : {s : State} {place : ℕ} {r : Record} {rest : List ℕ} {out : Reading} → ended s ≡ false → read-record s rest ≡ says r
       → Read (after s r) (place + size r) (drop (size r) rest) out
       → Read s place rest out

@@ -1,5 +1,5 @@
--- What the bench program writes. "A bench program reads a sheet from standard input (its first 4,096 bytes decide) and lends the list
--- 49,152 bytes. It writes exactly: .."
+-- What the bench program writes. "A bench program reads a sheet from standard input (its first 4,096 bytes decide) and lends
+-- the list 49,152 bytes. It writes exactly: .."
 use mathlib.Core.Path.{_≡_}
 use mathlib.Core.List.{List, [], _∷_, _++_}
 use Prim.Native.Nat.{ℕ}

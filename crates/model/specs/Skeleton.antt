@@ -44,4 +44,10 @@ on-message f (recv t) = recv (f t)
 
 unfoldable pub means : {M N : Type 0} → (M → N) → Skeleton M → Skeleton N
 unfolding on-message
-means f K = record { strands = map (map (on-message f)) (K .strands); order = K .order; non = map f (K .non); uniq = map f (K .uniq) }
+means f K =
+    record {
+      strands = map (map (on-message f)) (K .strands);
+      order = K .order;
+      non = map f (K .non);
+      uniq = map f (K .uniq);
+    }

@@ -68,7 +68,8 @@ second (Hash a) = 0
 -- the row of a kind, where there is such a kind
 unfoldable pub row-of-kind : ℕ → ℕ → ℕ → Option Row
 row-of-kind k a b =
-    getElem? (Tag a ∷ Mesg a ∷ Text a ∷ Datum a ∷ Name a ∷ Skey a ∷ Akey a ∷ Pubk a ∷ Inv a ∷ Ltk a b ∷ Pair a b ∷ Enc a b ∷ Hash a ∷ []) k
+    getElem?
+    (Tag a ∷ Mesg a ∷ Text a ∷ Datum a ∷ Name a ∷ Skey a ∷ Akey a ∷ Pubk a ∷ Inv a ∷ Ltk a b ∷ Pair a b ∷ Enc a b ∷ Hash a ∷ []) k
 
 -- "No two TM records are alike"
 unfoldable pub alike : Row → Row → Bool

@@ -12,6 +12,7 @@ use Rattle.model.specs.Table.{Row}
 use Rattle.model.specs.Sheet.{Drawing, HasSkeleton}
 use Rattle.model.specs.Skeleton.{recv, Node, At}
 use Rattle.model.specs.Answers.{HasTerms, HasReception, HasReceptionAndTerm}
+use Rattle.tables.proofs.Look.{count-is}
 use Rattle.theory.specs.Places.{listed-at, stands}
 use Rattle.tables.specs.Layout.{block, skeleton-count}
 use Rattle.tables.specs.Tables.{byte, rows-in, skeleton-in, sheet-in, Filled}
@@ -24,7 +25,6 @@ use Rattle.accept.proofs.Lies.{has-skeleton, skeleton-lies, is-drawn, is-right}
 use Rattle.theory.specs.GoodTable.{Good}
 use Rattle.theory.specs.Judgement.{Sound}
 use Rattle.carry.specs.Sets.{AreTerms}
-use Rattle.carry.proofs.Rows.{rows-length}
 use Rattle.questions.specs.Subject.{Has, there, none, AllBelow}
 
 -- The lent numbers
@@ -40,7 +40,7 @@ one-not l n q h g a = omega (arith, a .all (getD l q 0) (listed-at l q 0 h))
 
 terms-of : (t : List ℕ) {rows : List Row} → sheet-in t .rows ≡ rows → length rows ≡ byte t 600
 unfolding sheet-in
-terms-of t e = rw (← e) (rows-length t)
+terms-of t e = rw (← e) (count-is t)
 
 module _ (t : List ℕ) (u v : ℕ) (S : List ℕ) where
   abbrev n : ℕ
@@ -56,9 +56,9 @@ module _ (t : List ℕ) (u v : ℕ) (S : List ℕ) where
       go true d true e true g =
           there (record {
             rows-of = refl;
-            first = rw (rows-length t) (ltb-true u n d);
-            second = rw (rows-length t) (ltb-true v n e);
-            all = λ i m. rw (rows-length t) (g .0 refl .all i m);
+            first = rw (count-is t) (ltb-true u n d);
+            second = rw (count-is t) (ltb-true v n e);
+            all = λ i m. rw (count-is t) (g .0 refl .all i m);
           })
       go true d true e false g =
           none (λ rows h. true≢false (sym (g .1 (record { all = λ i m. rw (terms-of t (h .rows-of)) at (h .all i m) }))))
@@ -68,9 +68,9 @@ module _ (t : List ℕ) (u v : ℕ) (S : List ℕ) where
   pub are-terms : HasTerms u v S (sheet-in t) (rows-in t) → AreTerms n u v S
   are-terms h =
       record {
-        first = rw (rows-length t) at (h .first);
-        second = rw (rows-length t) at (h .second);
-        all = λ i m. rw (rows-length t) at (h .all i m);
+        first = rw (count-is t) at (h .first);
+        second = rw (count-is t) at (h .second);
+        all = λ i m. rw (count-is t) at (h .all i m);
       }
 
 pub good-rows : (t : List ℕ) → Sound (sheet-in t) → Good (rows-in t)
@@ -80,7 +80,8 @@ good-rows t s = s .good
 -- Skeletons
 
 module _ (t : List ℕ) (k : ℕ) where
-  pub skeleton-had : {r : Bool} → (r ≡ true) ↔ (k < byte t skeleton-count) → Has (HasSkeleton k (sheet-in t)) (drawing t (block k)) r
+  pub skeleton-had : {r : Bool} → (r ≡ true) ↔ (k < byte t skeleton-count)
+      → Has (HasSkeleton k (sheet-in t)) (drawing t (block k)) r
   skeleton-had {r} f = go r f
     where
       go : (x : Bool) → (x ≡ true) ↔ (k < byte t skeleton-count) → Has (HasSkeleton k (sheet-in t)) (drawing t (block k)) x
@@ -135,7 +136,7 @@ module _ (t : List ℕ) (k : ℕ) where
     with-term u true (there h) = go (ltb u (byte t 600)) refl
       where
         go : (x : Bool) → ltb u (byte t 600) ≡ x → Has (HasReceptionAndTerm k n u (sheet-in t)) (drawing t (block k)) x
-        go true e = there (record { reception = h; a-term = rw (rows-length t) (ltb-true u (byte t 600) e) })
+        go true e = there (record { reception = h; a-term = rw (count-is t) (ltb-true u (byte t 600) e) })
         go false e =
             none (λ D g. omega (arith, g .a-term, ltb-false u (byte t 600) e, terms-of t (g .reception .drawing .rows)))
 

@@ -12,11 +12,12 @@ use Rattle.model.specs.Lists.{upto, every}
 use Rattle.model.specs.Limits.{most-nons, most-uniqs}
 use Rattle.model.specs.Table.{Row}
 use Rattle.model.specs.Reading.{State, in-work, on-sheet, Mark, BS, TM, SK, ST, OR, NO, UO, EN, mark-bytes, may-follow, Record, edition, term, begin, strand, order, non, uniq, end, Said, refuse, says, check, need, read-BS, read-row, read-TM, read-SK, event-right, event-in, read-ST, event-at, sends, receives, read-OR, an-atom, read-atom, read-as, marked-as, read-record}
+use Rattle.theory.specs.Tests.{both-true}
 use Rattle.theory.specs.Upto.{length-upto}
 use Rattle.model.specs.Skeleton.{Node}
 use Rattle.tables.specs.Rows.{row-of, kind-of, by-kinds}
 use Rattle.tables.specs.declared.rows.Row as TableRow
-use Rattle.tables.proofs.Right.{both, read-by-kinds}
+use Rattle.tables.proofs.Right.{read-by-kinds}
 
 -- a skeleton has begun
 abbrev pub Inside : Option Mark → Type 0
@@ -126,7 +127,7 @@ module _ (s : State) (rest : List ℕ) where
       unless (every h (event-right (length (s .rows)) rest)) 7 said λ d.
       rw length-upto (
         ltb-true (length (in-work s .strands)) 6 room,
-        leb-true h 16 (both (leb 1 h) (leb h 16) b .1),
+        leb-true h 16 (both-true (leb 1 h) (leb h 16) b .1),
         leb-true (3 + 2 * h) (length rest) c,
         i,
       )

@@ -28,7 +28,8 @@ module _ (p : ℕ → Bool) where
   keep-more (y ∷ l) x = go (p y) (keep-more l x)
     where
       go : (b : Bool) → length (keep p (l ++ (x ∷ []))) ≡ length (keep p l) + one-if (p x)
-          → length (cond b (y ∷ keep p (l ++ (x ∷ []))) (keep p (l ++ (x ∷ [])))) ≡ length (cond b (y ∷ keep p l) (keep p l)) + one-if (p x)
+          → length (cond b (y ∷ keep p (l ++ (x ∷ []))) (keep p (l ++ (x ∷ [])))) ≡ length
+          (cond b (y ∷ keep p l) (keep p l)) + one-if (p x)
       go true e = omega (arith, e)
       go false e = e
 

@@ -9,7 +9,7 @@ use lib.Dec.{eqb}
 use borrow.Author.Tests.{eqb-true}
 use Rattle.model.specs.Lists.{some-of}
 use Rattle.model.specs.Reading.{Mark, BS, TM, SK, ST, OR, NO, UO, EN, mark-bytes, marked-as}
-use Rattle.tables.proofs.Right.{both}
+use Rattle.theory.specs.Tests.{both-true}
 use Rattle.records.specs.Marks.{the-mark, number, is-among, are-bytes, MarkOf, known, unknown}
 
 -- no two marks have the same bytes
@@ -50,7 +50,7 @@ module _ (a b : ℕ) where
   -- the bytes of a mark are found where the mark is
   known-found : (m : Mark) → are-bytes a b m ≡ true → (n : Mark) → are-bytes a b n ≡ eqb (number m) (number n)
   known-found m e n =
-      let p = both (eqb a (mark-bytes m .0)) (eqb b (mark-bytes m .1)) e in
+      let p = both-true (eqb a (mark-bytes m .0)) (eqb b (mark-bytes m .1)) e in
       rw (eqb-true a (mark-bytes m .0) (p .0), eqb-true b (mark-bytes m .1) (p .1)) (apart m n)
 
   known-marked : (m : Mark) → are-bytes a b m ≡ true → (ms : List Mark)

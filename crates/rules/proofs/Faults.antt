@@ -9,11 +9,11 @@ use Rattle.model.specs.Sheet.{Drawing, meant}
 use Rattle.model.specs.Accepting.{Cyclic, NonRight, UniqRight, NonTurn, UniqTurn}
 use Rattle.model.specs.Accepting as Accepting
 use Rattle.model.specs.Table.{term}
+use Rattle.tables.proofs.Look.{count-is}
 use Rattle.theory.specs.Happenings.{before-means, before-meant}
 use Rattle.model.specs.Lists.{upto}
 use Rattle.tables.specs.Layout.{non-count, uniq-count}
 use Rattle.tables.specs.Tables.{byte, rows-in, atoms-at, skeleton-at}
-use Rattle.carry.proofs.Rows.{rows-length}
 use Rattle.order.specs.Precedence.{Shows, Ordered}
 use Rattle.order.specs.Matrix.{Looped}
 use Rattle.order.proofs.Drawn.{cycle-looped, before-low}
@@ -73,11 +73,11 @@ module _ (t : List ℕ) (b : ℕ) where
 module _ {t : List ℕ} {b i : ℕ} (ready : Drawn t b) where
   pub nons-fine : Passed (NonRight (drawing t b)) (skeleton-at t b .non) i → byte t 600 ≤ i
       → NonsAs (drawing t b) Fault.Nothing
-  nons-fine w l = NonsAs.right (passed-all w (ready .on-table .nons) (rw (rows-length t) l))
+  nons-fine w l = NonsAs.right (passed-all w (ready .on-table .nons) (rw (count-is t) l))
 
   pub uniqs-fine : Passed (UniqRight (drawing t b)) (skeleton-at t b .uniq) i → byte t 600 ≤ i
       → UniqsAs (drawing t b) Fault.Nothing
-  uniqs-fine w l = UniqsAs.right (passed-all w (ready .on-table .uniqs) (rw (rows-length t) l))
+  uniqs-fine w l = UniqsAs.right (passed-all w (ready .on-table .uniqs) (rw (count-is t) l))
 
 -- The whole skeleton
 

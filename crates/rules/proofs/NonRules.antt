@@ -13,21 +13,18 @@ use Rattle.terms.specs.Set.{mem}
 use Rattle.model.specs.Table.{term}
 use Rattle.model.specs.Sheet.{meant}
 use Rattle.model.specs.Accepting.{Carried}
+use Rattle.theory.specs.Tests.{bool-false, both-true}
 use Rattle.theory.specs.Deciding.{Below, dec-below}
 use Rattle.tables.specs.Tables.{byte, rows-in, skeleton-at}
 use Rattle.carry.specs.Sets.{EndsBy, IsParts}
 use Rattle.carry.proofs.Rows.{inside-in}
 use Rattle.tables.specs.Drawn.{drawing, Drawn}
 use Rattle.rules.specs.Judged.{Heard, MissingAs, NonAs, NonDue}
-use Rattle.rules.proofs.Transfer.{bool-false, carried-iff, lost-iff}
+use Rattle.rules.proofs.Transfer.{carried-iff, lost-iff}
 
 true-test : (b : Bool) → Dec (b ≡ true)
 true-test true = yes refl
 true-test false = no (λ e. true≢false (sym e))
-
-and-both : (a b : Bool) → (a && b) ≡ true → (a ≡ true) × (b ≡ true)
-and-both true b e = (refl, e)
-and-both false b e = absurd (true≢false (sym e))
 
 -- a set whose numbers are below n, with an answer whether it is empty
 module _ (s : TermSet) (e : Bool) (n : ℕ) (low : (k : ℕ) → mem s k ≡ true → k < n)
@@ -59,10 +56,10 @@ module _ (t : List ℕ) (a : ℕ) where
       (common : (k : ℕ) → mem D k ≡ (mem P k && mem X k)) (minus : (k : ℕ) → mem F k ≡ (mem D k && not (mem H k)))
       (empty : (e ≡ true) ↔ ((k : ℕ) → mem F k ≡ false)) where
     in-common : (k : ℕ) → mem F k ≡ true → (mem D k ≡ true) × (not (mem H k) ≡ true)
-    in-common k m = and-both (mem D k) (not (mem H k)) (sym (minus k) ∙ m)
+    in-common k m = both-true (mem D k) (not (mem H k)) (sym (minus k) ∙ m)
 
     in-parts : (k : ℕ) → mem F k ≡ true → (mem P k ≡ true) × (mem X k ≡ true)
-    in-parts k m = and-both (mem P k) (mem X k) (sym (common k) ∙ in-common k m .0)
+    in-parts k m = both-true (mem P k) (mem X k) (sym (common k) ∙ in-common k m .0)
 
     in-terms : (k : ℕ) → mem F k ≡ true → k < length (rows-in t)
     in-terms k m = parts .shows .at k .0 (in-parts k m .0) .0

@@ -1,6 +1,6 @@
 -- From sets of numbers to the skeleton rules: what is carried, what is missing, where a term originates. Assumes nothing.
 use mathlib.Core.Path.{_≡_, refl, ap, _∙_, sym as back}
-use mathlib.Core.Bool.{Bool, true, false, true≢false}
+use mathlib.Core.Bool.{true, false, true≢false}
 use mathlib.Core.Logic.{_↔_}
 use mathlib.Core.List.{List}
 use Prim.Native.Nat.{ℕ, _<_}
@@ -15,6 +15,7 @@ use Rattle.model.specs.Table.{Row, term}
 use Rattle.model.specs.Skeleton.{Event, send, message, on-message, Node, Skeleton, At, means}
 use Rattle.model.specs.Events.{Origin, InSomeEvent}
 use Rattle.model.specs.Accepting.{Carried, Missing}
+use Rattle.theory.specs.Tests.{bool-false}
 use Rattle.theory.specs.GoodTable.{Good}
 use Rattle.theory.specs.Happenings.{at-means, at-meant}
 use Rattle.theory.specs.OnSheet.{OnSheet}
@@ -23,10 +24,6 @@ use Rattle.theory.specs.OnTable.{OnTable}
 use Rattle.theory.specs.Happenings.{send-means, message-means}
 use Rattle.carry.specs.Sets.{IsCarriers, IsCarried, IsParts, IsVariables, InMember}
 use Rattle.origin.specs.Marked.{FirstSent, IsMessages, node}
-
-pub bool-false : (b : Bool) → ¬ (b ≡ true) → b ≡ false
-bool-false true n = absurd (n refl)
-bool-false false n = refl
 
 module _ (rows : List Row) (good : Good rows) (K : Skeleton ℕ) (ok : OnTable rows K) where
   abbrev L : Skeleton Term

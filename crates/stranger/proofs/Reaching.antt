@@ -14,6 +14,7 @@ use Rattle.model.specs.Term.{Term, atom}
 use Rattle.model.specs.Table.{Row, row, term}
 use Rattle.model.specs.Derive.{Derivable}
 use Rattle.model.specs.SkeletonLaws.{derivable-mono}
+use Rattle.tables.proofs.Look.{count-is}
 use Rattle.theory.specs.Each.{Each, each-nil, each-cons, each-append}
 use Rattle.theory.specs.GoodTable.{Good}
 use Rattle.theory.specs.Reach.{inverse-at, row-rules, sent-rules, table-rules, NumberSent, NumberWithheld, reached-iff-derivable}
@@ -22,8 +23,7 @@ use Rattle.theory.specs.Rules.{Rule, _⊢_, Reached, by}
 use Rattle.tables.specs.Layout.{term-count}
 use Rattle.tables.specs.Tables.{byte, rows-in, Filled}
 use Rattle.keys.specs.Inverted.{Inverted}
-use Rattle.keys.proofs.Tests.{both-true}
-use Rattle.keys.proofs.Rows.{count-is}
+use Rattle.theory.specs.Tests.{both-true}
 use Rattle.stranger.specs.Reaches.{Named, Reaches}
 use Rattle.stranger.specs.Moves.{free, starts, Starts, moves-at, Moves}
 use Rattle.stranger.specs.Steps.{Has, Ready, Closure}

@@ -10,7 +10,7 @@ use borrow.Author.Tests.{eq-eqb, eqb-true, eqb-false}
 use Rattle.terms.specs.Set.{member}
 use Rattle.theory.specs.Each.{each-nil, each-cons}
 use Rattle.theory.specs.Rules.{Rule, _⊢_, Reached, by}
-use Rattle.keys.proofs.Tests.{both-true}
+use Rattle.theory.specs.Tests.{both-true}
 use Rattle.stranger.specs.Steps.{Has, Added, Ready, Grown, Step, Listed, Between}
 
 pub grown-none : (P : Rule → Type 0) (s : List ℕ) → Grown P s s

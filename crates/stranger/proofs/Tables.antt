@@ -8,6 +8,7 @@ use lib.Dec.{eqb, ltb}
 use lib.ListN.{length}
 use borrow.Author.Tests.{eqb-true}
 use Rattle.model.specs.Table.{Row, Tag, Mesg, Text, Datum, Name, Skey, Akey, Pubk, Inv, Ltk, Pair, Enc, Hash, row, kind, first, second}
+use Rattle.tables.proofs.Look.{count-is, row-in}
 use Rattle.theory.specs.Each.{Each, each-nil, each-cons, each-append}
 use Rattle.theory.specs.GoodTable.{Good}
 use Rattle.theory.specs.Reach.{inverse-at, atom-rules, row-rules}
@@ -15,7 +16,7 @@ use Rattle.theory.specs.Rules.{Rule, _⊢_}
 use Rattle.tables.specs.Layout.{firsts, seconds, term-count}
 use Rattle.tables.specs.Tables.{byte, rows-in, Filled}
 use Rattle.keys.specs.Inverted.{Inverted}
-use Rattle.keys.proofs.Rows.{count-is, row-is, EarlierBytes, earlier-bytes}
+use Rattle.keys.proofs.Rows.{EarlierBytes, earlier-bytes}
 use Rattle.stranger.specs.Moves.{free, builds, opens, builds-at, opens-at, moves-at, Opens, Moves}
 use Rattle.stranger.specs.Steps.{Grown, Step}
 use Rattle.stranger.proofs.Steps.{grown-then}
@@ -95,7 +96,7 @@ module _ {t : List ℕ} (filled : Filled t) (good : Good (rows-in t)) where
       let same = opens-along (inverse-at (rows-in t)) (byte v) i (byte t i) (byte t (firsts + i)) (byte t (seconds + i))
       (λ e. sym (inverted .at _ (inside (omega (arith, key-earlier h e .second))))) in
       row-moves withheld (inverse-at (rows-in t)) i (row (rows-in t) i)
-      ∙ rw (row-is t i h, c .kind-is, c .first-is, c .second-is, same)
+      ∙ rw (row-in t i h, c .kind-is, c .first-is, c .second-is, same)
 
   -- what the moves of a term give is on the table
   pub moves-below : (v : List ℕ) (i : ℕ) → i < byte t term-count → Each (λ q. q .gives < byte t term-count) (moves-at t v i)

@@ -20,4 +20,5 @@ pub record Named (rows : List Row) (s : TermSet) (t : Term) : Type 0 where
 
 -- the set has the terms of the table that are derivable, over all terms, from what is sent and what is not withheld
 pub record Reaches (rows : List Row) (sent withheld r : TermSet) : Type 0 where
-  pub at : (i : ℕ) → (mem r i ≡ true) ↔ ((i < length rows) × Derivable (Named rows sent) (λ a. Named rows withheld (atom a)) (term rows i))
+  pub at : (i : ℕ)
+      → (mem r i ≡ true) ↔ ((i < length rows) × Derivable (Named rows sent) (λ a. Named rows withheld (atom a)) (term rows i))

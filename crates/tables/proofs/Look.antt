@@ -9,7 +9,7 @@ use borrow.Author.Tests.{lt-ltb, le-ltb}
 use Rattle.model.specs.Lists.{upto, some-of}
 use Rattle.model.specs.Reading.{on-sheet}
 use Rattle.model.specs.Table as Table
-use Rattle.model.specs.Table.{Tag, kind, alike}
+use Rattle.model.specs.Table.{Tag, row, kind, first, second, alike}
 use Rattle.tables.specs.Layout.{firsts, seconds, term-count, strand-count, order-count, non-count, uniq-count}
 use Rattle.tables.specs.Tables.{byte, row-at, rows-of, rows-in, strands-at, orders-at, atoms-at, skeleton-at, drawn-in, Encoded, Filled}
 use Rattle.tables.specs.Rows.{row-of, Written, same-bytes, kind-of}
@@ -19,6 +19,24 @@ use Rattle.theory.specs.Upto.{length-upto, upto-at}
 pub length-rows : (n : ℕ) (t : List ℕ) → length (rows-of n t) ≡ n
 unfolding rows-of
 length-rows n t = length-upto n (row-at t)
+
+-- the rows by the bytes of the table
+pub count-is : (t : List ℕ) → length (rows-in t) ≡ byte t term-count
+count-is t = length-rows (byte t term-count) t
+
+pub row-in : (t : List ℕ) (i : ℕ) → i < byte t term-count → row (rows-in t) i ≡ row-at t i
+unfolding rows-of
+row-in t i h = upto-at (byte t term-count) (row-at t) (Tag 0) i h
+
+module _ (t : List ℕ) (i : ℕ) (f : Filled t) (h : i < byte t term-count) where
+  pub kind-is : kind (row (rows-in t) i) ≡ byte t i
+  kind-is = rw (row-in t i h) (f .encoded i h .kind-is)
+
+  pub first-is : first (row (rows-in t) i) ≡ byte t (firsts + i)
+  first-is = rw (row-in t i h) (f .encoded i h .first-is)
+
+  pub second-is : second (row (rows-in t) i) ≡ byte t (seconds + i)
+  second-is = rw (row-in t i h) (f .encoded i h .second-is)
 
 pub kind-in : (t : List ℕ) (i : ℕ) → Filled t → i < byte t term-count → byte t i ≡ kind-of (rows-in t) i
 unfolding rows-of kind-of

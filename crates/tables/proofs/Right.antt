@@ -7,10 +7,12 @@ use mathlib.Core.Option.{some, none}
 use native.Mathlib.Omega.{arith}
 use lib.Dec.{ltb, leb, eqb}
 use lib.ListN.{length}
-use borrow.Author.Tests.{leb-true, leb-false, eqb-true, eqb-false, eq-eqb, ne-eqb, lt-leb}
+use borrow.Author.Tests.{leb-true, leb-false, eqb-true, eqb-false, eq-eqb, ne-eqb, lt-leb, le-leb}
 use Rattle.model.specs.Table as Table
 use Rattle.model.specs.Table.{Tag, Mesg, Text, Datum, Name, Skey, Akey, Pubk, Inv, Ltk, Pair, Enc, Hash, kind, first, second, row, row-of-kind, is-mesg, is-name, is-key, is-atom, earlier, sorted}
-use Rattle.theory.specs.Places.{no-element}
+use Rattle.theory.specs.GoodTable.{row-of-bytes}
+use Rattle.theory.specs.Tests.{both-true}
+use Rattle.theory.specs.Places.{no-element, inside-list}
 use Rattle.model.specs.Reading.{Said, check, need, says, term, on-sheet, read-row, an-atom}
 use Rattle.tables.specs.Tables.{the-row}
 use Rattle.tables.specs.Rows.{row-of, Written, kind-of, by-kinds}
@@ -35,22 +37,17 @@ thirteen P a b c d e f g h i j k l m (suc (suc (suc (suc (suc (suc (suc (suc (su
 thirteen P a b c d e f g h i j k l m (suc (suc (suc (suc (suc (suc (suc (suc (suc (suc (suc (suc (suc n))))))))))))) q =
     absurd (omega arith)
 
+-- a row of each kind
+abbrev all-kinds : ℕ → ℕ → List Table.Row
+all-kinds a b =
+    Tag a ∷ Mesg a ∷ Text a ∷ Datum a ∷ Name a ∷ Skey a ∷ Akey a ∷ Pubk a ∷ Inv a ∷ Ltk a b ∷ Pair a b ∷ Enc a b ∷ Hash a ∷ []
+
 -- a row's kind is one
 kind-small : (r : Table.Row) → leb (kind r) 12 ≡ true
-unfolding kind
-kind-small (Tag a) = refl
-kind-small (Mesg a) = refl
-kind-small (Text a) = refl
-kind-small (Datum a) = refl
-kind-small (Name a) = refl
-kind-small (Skey a) = refl
-kind-small (Akey a) = refl
-kind-small (Pubk a) = refl
-kind-small (Inv a) = refl
-kind-small (Ltk a b) = refl
-kind-small (Pair a b) = refl
-kind-small (Enc a b) = refl
-kind-small (Hash a) = refl
+unfolding row-of-kind
+kind-small r =
+    let l : kind r < 13 = inside-list (all-kinds (first r) (second r)) (kind r) (row-of-bytes r) in le-leb (kind r) 12
+    (omega arith)
 
 -- the tests of an argument by its kind: one that 255 does not pass asks for a term too
 module _ (rows : List Table.Row) (t : ℕ) where
@@ -147,10 +144,7 @@ module _ (rows : List Table.Row) (a b : ℕ) where
 
   unknown : (k : ℕ) → 13 ≤ k → row-of-kind k a b ≡ none
   unfolding row-of-kind
-  unknown k h =
-      no-element
-      (Tag a ∷ Mesg a ∷ Text a ∷ Datum a ∷ Name a ∷ Skey a ∷ Akey a ∷ Pubk a ∷ Inv a ∷ Ltk a b ∷ Pair a b ∷ Enc a b ∷ Hash a ∷ [])
-      k h
+  unknown k h = no-element (all-kinds a b) k h
 
   kind-known : (k : ℕ) → k < 13 → kind (the-row k a b) ≡ k
   unfolding the-row kind
@@ -165,10 +159,6 @@ one-check : (p q : Bool) (n : ℕ) (x : Said) → check p n (check q n x) ≡ ch
 unfolding check
 one-check true q n x = refl
 one-check false q n x = refl
-
-pub both : (p q : Bool) → p && q ≡ true → (p ≡ true) × (q ≡ true)
-both true q e = (refl, e)
-both false q e = absurd (true≢false (sym e))
 
 module _ (rows : List Table.Row) (r : Row) where
   -- what is left once the row is right
@@ -203,7 +193,7 @@ module _ (rows : List Table.Row) (r : Row) where
         first-is = first-known rows (r .first) (r .second) (r .kind) h;
         second-is =
             eqb-true _ (r .second)
-            (both (eqb (second (row-of r)) (r .second)) _ (same rows (r .first) (r .second) (r .kind) h ∙ e) .0);
+            (both-true (eqb (second (row-of r)) (r .second)) _ (same rows (r .first) (r .second) (r .kind) h ∙ e) .0);
       }
 
   -- a row that is right has the bytes that it should

@@ -1,4 +1,5 @@
--- Where a sheet lies in its table. The terms: their kinds, then the first arguments, then the second ones, a byte each. Then the counts of
+-- Where a sheet lies in its table. The terms: their kinds, then the first arguments, then the second ones, a byte each. Then
+-- the counts of
 -- terms and of skeletons. Then a block for each skeleton.
 use Prim.Native.Nat.{ℕ, _+_, _*_}
 

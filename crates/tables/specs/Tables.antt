@@ -16,7 +16,8 @@ byte t i = getD t i 0
 -- the row of three bytes
 unfoldable pub the-row : ℕ → ℕ → ℕ → Row
 the-row k a b =
-    getD (Tag a ∷ Mesg a ∷ Text a ∷ Datum a ∷ Name a ∷ Skey a ∷ Akey a ∷ Pubk a ∷ Inv a ∷ Ltk a b ∷ Pair a b ∷ Enc a b ∷ Hash a ∷ []) k (Tag a)
+    getD (Tag a ∷ Mesg a ∷ Text a ∷ Datum a ∷ Name a ∷ Skey a ∷ Akey a ∷ Pubk a ∷ Inv a ∷ Ltk a b ∷ Pair a b ∷ Enc a b ∷ Hash a
+    ∷ []) k (Tag a)
 
 abbrev pub row-at : List ℕ → ℕ → Row
 row-at t i = the-row (byte t i) (byte t (firsts + i)) (byte t (seconds + i))

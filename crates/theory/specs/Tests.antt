@@ -1,5 +1,6 @@
--- What `T` says of `&&`, `||` and `not`. The Bools are explicit, since `T` does not show them.
-use mathlib.Core.Bool.{Bool, true, false, not, _&&_, _||_}
+-- What `T`, and being true, say of `&&`, `||` and `not`. The Bools are explicit, since `T` does not show them.
+use mathlib.Core.Path.{_≡_, refl, sym, _∙_}
+use mathlib.Core.Bool.{Bool, true, false, not, _&&_, _||_, true≢false}
 use mathlib.Core.Logic.{_↔_, _⊎_, inl, inr}
 use lib.Dec.{T}
 
@@ -30,3 +31,15 @@ or-right false b h = h
 pub not-not-iff : (b : Bool) → T (not (not b)) ↔ T b
 not-not-iff true = (λ h. h, λ h. h)
 not-not-iff false = (λ h. h, λ h. h)
+
+pub both-true : (a b : Bool) → (a && b) ≡ true → (a ≡ true) × (b ≡ true)
+both-true true b e = (refl, e)
+both-true false b e = absurd (true≢false (sym e))
+
+pub bool-false : (b : Bool) → ¬ (b ≡ true) → b ≡ false
+bool-false true n = absurd (n refl)
+bool-false false n = refl
+
+-- a test that said no
+pub was-no : {b : Bool} {P : Type 0} → (b ≡ true) ↔ P → b ≡ false → ¬ P
+was-no test e h = true≢false (sym (test .1 h) ∙ e)

@@ -22,10 +22,12 @@ returns-2 c =
     let a = c .before .before .before .before in
     let e = a .before .before .before .before in
     let g = e .before .before .before .before in
-    accepted-as _ _ _ (was-read (g .read-sheet .ensures) (e .enum-told .given .1)) (g .read-sheet .ensures .filled) (a .accept-terms .ensures)
+    accepted-as _ _ _ (was-read (g .read-sheet .ensures) (e .enum-told .given .1)) (g .read-sheet .ensures .filled)
+    (a .accept-terms .ensures)
 
 pub accept-spec : {M : Type 1} → statement M
 accept-spec =
     tie.close
-    (tie.spec (search needs) (search needs) (search needs) accept-terms-requires (search needs) returns (search needs) (search needs)
+    (tie.spec (search needs) (search needs) (search needs) accept-terms-requires (search needs) returns (search needs)
+    (search needs)
     (search needs) returns-2)

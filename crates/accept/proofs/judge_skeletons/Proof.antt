@@ -47,7 +47,8 @@ loop-again c =
     let l = w .before .before in (
       omega arith,
       g .judge-block .ensures .1,
-      right-more _ (l .loop .k) (l .loop .inv .2) (rw (w .block-of .ensures) at (g .judge-block .ensures .0)) (c .enum-told .given .1),
+      right-more _ (l .loop .k) (l .loop .inv .2) (rw (w .block-of .ensures) at (g .judge-block .ensures .0))
+          (c .enum-told .given .1),
     )
 
 returns-2 : tie.Need-returns-2 Inv-loop μ-loop

@@ -6,7 +6,7 @@ use Rattle.model.specs.Accepting.{Lacking}
 use Rattle.tables.specs.Layout.{term-count}
 use Rattle.tables.specs.Tables.{byte, rows-in}
 use Rattle.keys.specs.Inverted.{lacks}
-use Rattle.keys.proofs.Tests.{was-no}
+use Rattle.theory.specs.Tests.{was-no}
 use Rattle.keys.proofs.Pairing.{all-paired}
 use Rattle.keys.proofs.lowest_lacking.Statement.{statement}
 use Rattle.keys.proofs.lowest_lacking.Tie as tie

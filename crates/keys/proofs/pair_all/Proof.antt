@@ -3,10 +3,10 @@ use Prim.Native.Nat.{_≤_, _-_}
 use mathlib.Core.Path.{_≡_}
 use native.Mathlib.Omega.{arith}
 use borrow.Author.Needs.{needs}
+use Rattle.tables.proofs.Look.{count-is}
 use Rattle.tables.specs.Layout.{term-count}
 use Rattle.tables.specs.Tables.{byte, rows-in}
 use Rattle.keys.specs.Partners.{Partners}
-use Rattle.keys.proofs.Rows.{count-is}
 use Rattle.keys.proofs.Pairing.{no-row-yet}
 use Rattle.keys.proofs.pair_all.Statement.{statement}
 use Rattle.keys.proofs.pair_all.Tie as tie

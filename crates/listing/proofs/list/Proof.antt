@@ -30,10 +30,12 @@ asked c =
     let s = start e1 in
     let from = e1 .before .before .has-skeleton .ensures in
     let to = e1 .before .has-skeleton2 .ensures in
-    let both = is-asked (s .args .table .now) (s .pre .0) (within-listed _ (s .pre .1)) _ _ from to (not-false _ (e1 .if1 .left)) in
+    let both = is-asked (s .args .table .now) (s .pre .0) (within-listed _ (s .pre .1)) _ _ from to
+    (not-false _ (e1 .if1 .left)) in
     rw (c .before .block-of .ensures, c .block-of2 .ensures) both
 
-has-strand : (c : tie.After-block-of2) → let s = start (c .before .before) in 1 ≤ strands (s .args .table .now) (c .block-of2 .result)
+has-strand : (c : tie.After-block-of2)
+    → let s = start (c .before .before) in 1 ≤ strands (s .args .table .now) (c .block-of2 .result)
 has-strand c =
     let e1 = c .before .before in
     let s = start e1 in

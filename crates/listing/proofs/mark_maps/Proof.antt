@@ -31,7 +31,8 @@ try-candidate-requires : tie.Need-try-candidate-requires Inv-loop μ-loop
 try-candidate-requires c κs =
     let l = c .before .before .loop in
     let s = c .before .before .before .before .before .before .before .before .before .before .before .before in
-    let low : l .c < strands (s .args .table .now) (s .args .target) ^ strands (s .args .table .now) (s .args .source) = search needs in
+    let low : l .c < strands (s .args .table .now) (s .args .target) ^ strands (s .args .table .now) (s .args .source) =
+    search needs in
     (s .pre .0, s .pre .1, low, l .inv .1, l .inv .2)
 
 loop-again : tie.Need-loop-again Inv-loop μ-loop
@@ -43,7 +44,8 @@ returns : tie.Need-returns Inv-loop μ-loop
 returns c =
     let l = c .before .loop in
     let s = c .before .before .before .before .before .before .before .before .before .before .before in
-    let all : l .c ≡ strands (s .args .table .now) (s .args .target) ^ strands (s .args .table .now) (s .args .source) = search needs in
+    let all : l .c ≡ strands (s .args .table .now) (s .args .target) ^ strands (s .args .table .now) (s .args .source) =
+    search needs in
     (rw all at (l .inv .2), l .inv .1)
 
 pub mark-maps-spec : {M : Type 1} → statement M

@@ -37,7 +37,8 @@ returns-2 c =
     let s = counting .before .before .before .before in
     let power = counting .before .power .ensures .0 in
     let counted = counting .count-marked .ensures .0 (s .args .n) (s .args .base) in
-    let most : counting .count-marked .result ≤ 46656 = omega (arith, counting .count-marked .ensures .1, counting .before .power .ensures .1) in
+    let most : counting .count-marked .result ≤ 46656 =
+    omega (arith, counting .count-marked .ensures .1, counting .before .power .ensures .1) in
     (all-given (rw power at counted) (search needs) (rw power at (w .write-marked .ensures)), most)
 
 pub write-list-spec : {M : Type 1} → statement M

@@ -4,8 +4,8 @@ use Prim.Native.Nat.{_≤_, _<_, _-_}
 use native.Mathlib.Omega.{arith}
 use lib.ListN.{length, length-set}
 use borrow.Author.Needs.{needs}
+use Rattle.tables.proofs.Look.{count-is}
 use Rattle.tables.specs.Tables.{byte, rows-in, skeleton-at}
-use Rattle.keys.proofs.Rows.{count-is}
 use Rattle.mapping.proofs.Starting.{StartsBelow, starts-none, starts-more, all-origins}
 use Rattle.mapping.proofs.fill_origins.Statement.{statement}
 use Rattle.mapping.proofs.fill_origins.Tie as tie

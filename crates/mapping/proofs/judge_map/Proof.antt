@@ -8,7 +8,7 @@ use Rattle.model.specs.Table.{Row}
 use Rattle.model.specs.Skeleton.{Skeleton}
 use Rattle.tables.specs.Tables.{rows-in, skeleton-at}
 use Rattle.matching.specs.Matches.{Matches}
-use Rattle.maps.specs.Rules.{KeptTo1, KeptTo2, Tells5}
+use Rattle.maps.specs.Rules.{KeptTo1, KeptTo2, Tells5, Tells6}
 use Rattle.maps.proofs.Starting.{origins-start}
 use Rattle.mapping.proofs.Judging.{breaks-1, breaks-2, breaks-3, breaks-4, breaks-5, breaks-6, all-hold, full}
 use Rattle.mapping.proofs.Judging.{ready, images-ready, was-matched, matched}
@@ -138,35 +138,38 @@ rule-six-requires c κs =
     (p .starts-long) (p .ends-long) in
     (images-ready (p .asked) (passed .before .before .before .matches .ensures .1), p .asked .inverses-are, starts)
 
+abbrev passed-4 : tie.After-rule-six → tie.Else4
+passed-4 c = c .before .before .before .before .before
+
+told-6 : (c : tie.After-rule-six) → let s = start-3 (passed-4 c .before .before) in
+    Tells6 (rows s) (A s) (B s) (bytes s) (c .rule-six .result)
+told-6 c =
+    let passed = passed-4 c .before .before in
+    let p = start-3 passed .pre .0 in
+    c .rule-six .ensures .tells _ _ (matched p (found passed)) (p .source-atoms .uniqs) (p .target-atoms .uniqs)
+    (p .source-origins) (p .target-origins)
+
 returns-6 : tie.Need-returns-6
 returns-6 c =
     let passed-5 = c .before .before .before in
-    let passed-4 = passed-5 .before .before .before in
-    let passed = passed-4 .before .before in
-    let p = start-3 passed .pre .0 in
+    let ordered = passed-4 (c .before) in
+    let passed = ordered .before .before in
     let k = kept-2 (passed .before .before .before .before .before) in
-    let four = passed-4 .before .rule-four .ensures .0 (not-false _ (passed-4 .if4 .left)) in
-    let five = told-5 (passed-5 .before) in
-    let six = c .before .rule-six .ensures .tells _ _ (matched p (found passed)) (p .source-atoms .uniqs) (p .target-atoms .uniqs)
-    (p .source-origins) (p .target-origins) in (
-      breaks-6 _ _ _ _ _ (k .strands) (k .directions) (found passed) four five (not-false _ (passed-5 .if5 .left)) six
-          (not-true _ (c .if6 .taken)),
+    let four = ordered .before .rule-four .ensures .0 (not-false _ (ordered .if4 .left)) in (
+      breaks-6 _ _ _ _ _ (k .strands) (k .directions) (found passed) four (told-5 (passed-5 .before))
+          (not-false _ (passed-5 .if5 .left)) (told-6 (c .before)) (not-true _ (c .if6 .taken)),
       passed .before .before .before .matches .ensures .1,
     )
 
 returns-7 : tie.Need-returns-7
 returns-7 c =
     let passed-5 = c .before .before .before in
-    let passed-4 = passed-5 .before .before .before in
-    let passed = passed-4 .before .before in
-    let p = start-3 passed .pre .0 in
+    let ordered = passed-4 (c .before) in
+    let passed = ordered .before .before in
     let k = kept-2 (passed .before .before .before .before .before) in
-    let four = passed-4 .before .rule-four .ensures .0 (not-false _ (passed-4 .if4 .left)) in
-    let five = told-5 (passed-5 .before) in
-    let six = c .before .rule-six .ensures .tells _ _ (matched p (found passed)) (p .source-atoms .uniqs) (p .target-atoms .uniqs)
-    (p .source-origins) (p .target-origins) in (
-      all-hold _ _ _ _ _ (k .strands) (k .directions) (found passed) four five (not-false _ (passed-5 .if5 .left)) six
-          (not-false _ (c .if6 .left)),
+    let four = ordered .before .rule-four .ensures .0 (not-false _ (ordered .if4 .left)) in (
+      all-hold _ _ _ _ _ (k .strands) (k .directions) (found passed) four (told-5 (passed-5 .before))
+          (not-false _ (passed-5 .if5 .left)) (told-6 (c .before)) (not-false _ (c .if6 .left)),
       passed .before .before .before .matches .ensures .1,
     )
 

@@ -6,8 +6,8 @@ use lib.ListN.{length, length-set}
 use borrow.Author.Needs.{needs}
 use Rattle.model.specs.Lists.{upto}
 use Rattle.model.specs.Answers.{over}
+use Rattle.tables.proofs.Look.{count-is}
 use Rattle.tables.specs.Tables.{byte}
-use Rattle.keys.proofs.Rows.{count-is}
 use Rattle.mapping.specs.Written.{shown}
 use Rattle.mapping.proofs.Writing.{over-none, over-more, all-written}
 use Rattle.mapping.proofs.write_images.Statement.{statement}

@@ -2,10 +2,10 @@
 use Prim.Native.Nat.{ℕ, _≤_, _<_, _-_}
 use borrow.Author.Count.{below-none, below-more}
 use borrow.Author.Needs.{needs}
+use Rattle.theory.specs.Tests.{was-no}
 use Rattle.tables.specs.Layout.{term-count}
 use Rattle.tables.specs.Tables.{byte}
 use Rattle.maps.specs.Images.{IsRow, found, missing}
-use Rattle.maps.proofs.Answers.{was-no}
 use Rattle.maps.proofs.look_up.Statement.{statement}
 use Rattle.maps.proofs.look_up.Tie as tie
 

@@ -3,9 +3,10 @@ use Prim.Native.Nat.{ℕ, _+_, _*_, _≤_, _<_, _-_}
 use borrow.Author.Count.{below-none, below-more}
 use borrow.Author.Tests.{not-true, not-false}
 use borrow.Author.Needs.{needs}
+use Rattle.theory.specs.Tests.{was-no}
 use Rattle.tables.specs.Layout.{order-count, orders}
 use Rattle.tables.specs.Tables.{byte}
-use Rattle.maps.proofs.Answers.{granted, refused, was-no}
+use Rattle.maps.proofs.Answers.{granted, refused}
 use Rattle.maps.proofs.Keeping.{PairKept, End, pair-told, first-end, second-end, pairs-kept, pair-kept}
 use Rattle.maps.proofs.rule_four.Statement.{statement}
 use Rattle.maps.proofs.rule_four.Tie as tie

@@ -7,8 +7,9 @@ use borrow.Author.Count.{below-none, below-more}
 use borrow.Author.Tests.{not-true, not-false}
 use borrow.Author.Needs.{needs}
 use lib.ListN.{length, getD}
+use Rattle.theory.specs.Tests.{was-no}
 use Rattle.maps.specs.Strands.{StrandKept}
-use Rattle.maps.proofs.Answers.{granted, refused, was-no}
+use Rattle.maps.proofs.Answers.{granted, refused}
 use Rattle.maps.proofs.Keeping.{full, inside, strands-laid, strands-kept, strand-kept}
 use Rattle.maps.proofs.rule_two.Statement.{statement}
 use Rattle.maps.proofs.rule_two.Tie as tie

@@ -5,8 +5,9 @@ use borrow.Author.Count.{below-none, below-more}
 use borrow.Author.Tests.{not-true, not-false}
 use borrow.Author.Needs.{needs}
 use lib.Dec.{eqb}
+use Rattle.theory.specs.Tests.{was-no}
 use Rattle.tables.specs.Tables.{byte}
-use Rattle.maps.proofs.Answers.{granted, refused, was-no}
+use Rattle.maps.proofs.Answers.{granted, refused}
 use Rattle.maps.proofs.same_directions.Statement.{statement}
 use Rattle.maps.proofs.same_directions.Tie as tie
 

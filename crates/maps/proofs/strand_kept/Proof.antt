@@ -22,5 +22,6 @@ pub strand-kept-spec : {M : Type 1} → statement M
 strand-kept-spec =
     tie.close
     (tie.spec (search needs) (search needs) (search needs) (search needs) (search needs) (search needs) (search needs)
-    (search needs) (search needs) (search needs) returns (search needs) (search needs) (search needs) (search needs) (search needs)
+    (search needs) (search needs) (search needs) returns (search needs) (search needs) (search needs) (search needs)
+    (search needs)
     (search needs) same-directions-requires returns-2)

@@ -2,7 +2,7 @@
 use borrow.Author.Needs.{needs}
 use mathlib.Core.Path.{sym, _∙_}
 use borrow.Author.Tests.{not-true, not-false}
-use Rattle.matching.proofs.Rows.{count-is}
+use Rattle.tables.proofs.Look.{count-is}
 use Rattle.matching.proofs.Outcomes.{visit-nothing, visit-unfit, visit-sent}
 use Rattle.matching.proofs.visit.Statement.{statement}
 use Rattle.matching.proofs.visit.Tie as tie
@@ -19,7 +19,7 @@ shared-slice-read-if1 c = search needs
 returns : tie.Need-returns
 returns c =
     let pre = c .before .before .before .before .before .before .before .pre in
-    visit-nothing _ _ _ (pre .2) (rw (count-is (pre .0 .filled)) (search needs))
+    visit-nothing _ _ _ (pre .2) (rw count-is (search needs))
 
 heads-fit-requires : tie.Need-heads-fit-requires
 heads-fit-requires c κs = search needs
@@ -28,7 +28,7 @@ returns-2 : tie.Need-returns-2
 returns-2 c =
     let pre = c .before .before .before .before .before .before .before .before .before .pre in
     let unfit = sym (c .before .heads-fit .ensures) ∙ not-true _ (c .if2 .taken) in
-    visit-unfit _ _ _ (pre .2) (rw (count-is (pre .0 .filled)) (search needs)) unfit
+    visit-unfit _ _ _ (pre .2) (rw count-is (search needs)) unfit
 
 ask-requires : tie.Need-ask-requires
 ask-requires c κs = search needs
@@ -41,7 +41,7 @@ returns-3 c =
     let pre = c .before .before .before .before .before .before .before .before .before .before .before .before .before .pre in
     let if2 = c .before .before .before .before in
     let fit = sym (if2 .before .heads-fit .ensures) ∙ not-false _ (if2 .if2 .left) in
-    visit-sent _ _ _ (pre .2) (rw (count-is (pre .0 .filled)) (search needs)) fit (c .before .before .ask .ensures)
+    visit-sent _ _ _ (pre .2) (rw count-is (search needs)) fit (c .before .before .ask .ensures)
 
 pub visit-spec : {M : Type 1} → statement M
 visit-spec =

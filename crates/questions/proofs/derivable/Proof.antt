@@ -18,8 +18,11 @@ prepare-requires : tie.Need-prepare-requires
 prepare-requires c κs =
     let test = c .before .before in
     let s = test .before .before .before .before in
-    let has = is-there (test .has-reception-and-term .ensures) (not-false _ (c .before .if1 .left)) in
-    (drawn-there (s .args .table .now) (s .args .skeleton) (s .pre .0 .filled) (s .pre .0 .sound) (has .reception .drawing), s .pre .1)
+    let has = is-there (test .has-reception-and-term .ensures) (not-false _ (c .before .if1 .left)) in (
+      drawn-there (s .args .table .now) (s .args .skeleton) (s .pre .0 .filled) (s .pre .0 .sound)
+          (has .reception .drawing),
+      s .pre .1,
+    )
 
 reached-before-requires : tie.Need-reached-before-requires
 reached-before-requires c κs =

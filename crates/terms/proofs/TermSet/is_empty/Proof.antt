@@ -1,4 +1,5 @@
--- `terms::TermSet::is_empty` meets its contract: a set with no number counts none, and one that counts none has none. Assumes nothing.
+-- `terms::TermSet::is_empty` meets its contract: a set with no number counts none, and one that counts none has none. Assumes
+-- nothing.
 use mathlib.Core.Path.{_≡_, refl, sym, _∙_}
 use mathlib.Core.Bool.{Bool, true, false}
 use mathlib.Core.Logic.{_↔_}
