@@ -10,7 +10,7 @@ use native.Mathlib.Decide.{ℕ-discrete}
 use lib.Dec.{T, eqb, leb, eqb→eq, eqb-refl}
 use lib.ListN.{length}
 use Rattle.terms.specs.declared.TermSet.{TermSet}
-use Rattle.terms.specs.Set.{mem, member}
+use Rattle.terms.specs.Set.{mem, member, Added}
 use Rattle.terms.proofs.Words.{member-none}
 use Rattle.model.specs.Carry.{Occurs, Carries}
 use Rattle.model.specs.Table.{Row, row, term}
@@ -22,7 +22,7 @@ use Rattle.theory.specs.Numbers.{number, number-term}
 use Rattle.theory.specs.OnSheet.{OnSheet}
 use Rattle.tables.specs.Tables.{byte, row-at, rows-in, Encoded, Filled}
 use Rattle.carry.specs.Next.{has-first, has-second, is-part, is-carried, parts-next}
-use Rattle.carry.specs.Sets.{Added, Shows, EndsBy, InMember, IsParts, CarriedIn, IsCarried}
+use Rattle.carry.specs.Sets.{Shows, EndsBy, InMember, IsParts, CarriedIn, IsCarried}
 use Rattle.terms.proofs.Listed.{empty}
 use Rattle.carry.proofs.Shown.{is-T}
 use Rattle.carry.proofs.Rows.{inside-in}

@@ -21,10 +21,6 @@ use Rattle.carry.specs.Next.{parts-next}
 abbrev pub of : List ℕ → TermSet
 of words = record { words = words }
 
--- the words r have what s have, and t too if it is so
-pub record Added (t : ℕ) (so : Bool) (s r : List ℕ) : Type 0 where
-  pub at : (k : ℕ) → member r k ≡ (member s k || (so && eqb k t))
-
 -- the words r have what s have, and what a visit of the term t, whose row is q, adds
 pub record Visited (part : Row → ℕ → Bool) (start : List ℕ) (t : ℕ) (q : Row) (s r : List ℕ) : Type 0 where
   pub at : (k : ℕ) → member r k ≡ parts-next part (member start) (member s) t q k

@@ -10,31 +10,15 @@ ghost use Rattle.terms.specs.Set.{member, IsSetOf};
 ghost use Rattle.theory.specs.GoodTable.{Good};
 ghost use Rattle.tables.specs.Tables.{byte, row-at, rows-in, Filled};
 ghost use Rattle.carry.specs.Next.{loose-next, is-part, is-carried, is-variable};
-ghost use Rattle.carry.specs.Sets.{of, Added, Visited, IsLoose, IsCarriers, AreTerms, WithinLent};
+ghost use Rattle.carry.specs.Sets.{of, Visited, IsLoose, IsCarriers, AreTerms, WithinLent};
 ghost use Rattle.carry.specs.Sets.{EndsBy, IsParts, IsCarried, IsVariables};
 use tables::FIRSTS;
 use tables::SECONDS;
 use tables::TERM_COUNT;
 use terms::Term;
 use terms::TermSet;
-
-// Whether the set of these words has `t`.
-fn has(words: &[u64], t: Term) -> bool
-    requires { ⌜ length (now words) ≡ 4 ⌝ }
-    ensures { λ r. ⌜ r ≡ member (now (words .entry)) (t .0) ⌝ }
-{
-    (words[(t.0 / 64) as usize] >> (t.0 % 64)) % 2 == 1
-}
-
-// Puts `t` into it, if it is so.
-fn add_if(words: &mut [u64], t: Term, so: bool)
-    requires { ⌜ length (now words) ≡ 4 ⌝ }
-    ensures { λ _. ⌜ Added (t .0) so (now (words .entry)) (now (words .exit)) ⌝ }
-{
-    if so {
-        words[(t.0 / 64) as usize] |= 1u64 << (t.0 % 64);
-    }
-}
+use terms::add_if;
+use terms::has;
 
 // Whether `t` is loose in the term `inside`, where `loose` says so of the terms before it.
 fn loose_at(table: &[u8], t: Term, set: &[u64], loose: &[u64], inside: Term) -> bool
@@ -71,7 +55,7 @@ pub fn loose(table: &[u8], t: Term, set: TermSet) -> TermSet
     ensures { λ r. ⌜ IsLoose (rows-in (now (table .entry))) set (t .0) r ⌝ }
 {
     let members = set.words;
-    let mut words = [0, 0, 0, 0];
+    let mut words = TermSet::EMPTY.words;
     put_loose(table, t, &members, &mut words);
     TermSet { words }
 }
@@ -141,7 +125,7 @@ pub fn parts_below(table: &[u8], start: TermSet, top: u8) -> TermSet
     ensures { λ r. ⌜ IsParts (rows-in (now (table .entry))) start r ⌝ }
 {
     let members = start.words;
-    let mut words = [0, 0, 0, 0];
+    let mut words = TermSet::EMPTY.words;
     put_parts(table, &members, &mut words, top);
     TermSet { words }
 }
@@ -189,7 +173,7 @@ pub fn carried_by(table: &[u8], start: TermSet) -> TermSet
     ensures { λ r. ⌜ IsCarried (rows-in (now (table .entry))) start r ⌝ }
 {
     let members = start.words;
-    let mut words = [0, 0, 0, 0];
+    let mut words = TermSet::EMPTY.words;
     put_carried(table, &members, &mut words);
     TermSet { words }
 }
@@ -220,7 +204,7 @@ pub fn variables(table: &[u8]) -> TermSet
     requires { ⌜ Filled (now table) × Good (rows-in (now table)) ⌝ }
     ensures { λ r. ⌜ IsVariables (rows-in (now (table .entry))) r ⌝ }
 {
-    let mut words = [0, 0, 0, 0];
+    let mut words = TermSet::EMPTY.words;
     put_variables(table, &mut words);
     TermSet { words }
 }

@@ -9,7 +9,7 @@ use borrow.Author.Tests.{eqb-true, eqb-false, lt-ltb, le-ltb, ltb-true, ltb-fals
 use Rattle.terms.specs.declared.TermSet.{TermSet}
 use Rattle.terms.proofs.Words.{member-none}
 use Rattle.stranger.specs.Moves.{starts, Starts}
-use Rattle.stranger.specs.Steps.{Added}
+use Rattle.terms.specs.Set.{Added}
 
 other-next : (k i : ℕ) → ¬ (k ≡ i) → ltb k i ≡ ltb k (i + 1)
 other-next k i n = go (ltb k i) refl

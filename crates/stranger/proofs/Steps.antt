@@ -7,11 +7,11 @@ use Prim.Native.Nat.{ℕ, _+_, _≤_, _<_}
 use native.Mathlib.Omega.{arith}
 use lib.Dec.{eqb}
 use borrow.Author.Tests.{eq-eqb, eqb-true, eqb-false}
-use Rattle.terms.specs.Set.{member}
+use Rattle.terms.specs.Set.{member, Added}
 use Rattle.theory.specs.Each.{each-nil, each-cons}
 use Rattle.theory.specs.Rules.{Rule, _⊢_, Reached, by}
 use Rattle.theory.specs.Tests.{both-true}
-use Rattle.stranger.specs.Steps.{Has, Added, Ready, Grown, Step, Listed, Between}
+use Rattle.stranger.specs.Steps.{Has, Ready, Grown, Step, Listed, Between}
 
 pub grown-none : (P : Rule → Type 0) (s : List ℕ) → Grown P s s
 grown-none P s = record { grows = λ k h. h; only = λ all sub start. start }

@@ -10,10 +10,6 @@ use Rattle.theory.specs.Rules.{Rule, Reached}
 abbrev pub Has : List ℕ → ℕ → Type 0
 Has s k = member s k ≡ true
 
--- r is s, with t too if it is so
-pub record Added (t : ℕ) (so : Bool) (s r : List ℕ) : Type 0 where
-  pub at : (k : ℕ) → member r k ≡ (member s k || so && eqb k t)
-
 -- the set has all that the rule needs
 abbrev pub Ready : List ℕ → Rule → Type 0
 Ready s q = (i : ℕ) → List·Memᴰ i (q .needs) → Has s i

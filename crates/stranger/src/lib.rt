@@ -12,7 +12,7 @@ ghost use Rattle.tables.specs.Tables.{byte, rows-in, Filled};
 ghost use Rattle.keys.specs.Inverted.{Inverted};
 ghost use Rattle.stranger.specs.Reaches.{Reaches};
 ghost use Rattle.stranger.specs.Moves.{starts, Starts, Whole, Parts, Opens, Moves};
-ghost use Rattle.stranger.specs.Steps.{Added, Listed, Step, Closure};
+ghost use Rattle.stranger.specs.Steps.{Listed, Step, Closure};
 use tables::FIRSTS;
 use tables::SECONDS;
 use tables::TERM_COUNT;
@@ -22,24 +22,8 @@ use tables::rows::HASH;
 use tables::rows::PAIR;
 use terms::Term;
 use terms::TermSet;
-
-// Whether the set of these words has t.
-fn has(words: &[u64], t: Term) -> bool
-    requires { ⌜ length (now words) ≡ 4 ⌝ }
-    ensures { λ r. ⌜ r ≡ member (now (words .entry)) (t .0) ⌝ }
-{
-    (words[(t.0 / 64) as usize] >> (t.0 % 64)) % 2 == 1
-}
-
-// Puts t into it, if it is so.
-fn add_if(words: &mut [u64], t: Term, so: bool)
-    requires { ⌜ length (now words) ≡ 4 ⌝ }
-    ensures { λ _. ⌜ Added (t .0) so (now (words .entry)) (now (words .exit)) ⌝ }
-{
-    if so {
-        words[(t.0 / 64) as usize] |= 1u64 << (t.0 % 64);
-    }
-}
+use terms::add_if;
+use terms::has;
 
 // Whether the stranger has t from the start: what is sent, tags, message variables, and atoms that are not withheld.
 fn starts_with(table: &[u8], sent: TermSet, withheld: TermSet, t: Term) -> bool
@@ -67,7 +51,7 @@ fn start(table: &[u8], sent: TermSet, withheld: TermSet) -> TermSet
     requires { ⌜ Filled (now table) ⌝ }
     ensures { λ r. ⌜ Starts (now (table .entry)) sent withheld (byte (now (table .entry)) term-count) (r .words) ⌝ }
 {
-    let mut words = [0, 0, 0, 0];
+    let mut words = TermSet::EMPTY.words;
     put_start(table, &mut words, sent, withheld);
     TermSet { words }
 }

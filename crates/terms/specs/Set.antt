@@ -1,7 +1,7 @@
 -- A `TermSet` as a set of numbers.
 use Prim.Native.Nat.{ℕ, zero, suc, _+_, _/_, _%_, _^_, _≤_, _<_}
 use mathlib.Core.Path.{_≡_}
-use mathlib.Core.Bool.{Bool, true, false}
+use mathlib.Core.Bool.{Bool, true, false, _||_, _&&_}
 use mathlib.Core.List.{List, List·Memᴰ}
 use mathlib.Core.Logic.{_↔_}
 use lib.ListN.{getD}
@@ -28,6 +28,10 @@ k ∈ s = mem s k ≡ true
 infix 50 _⊆_
 abbrev pub _⊆_ : TermSet → TermSet → Type 0
 s ⊆ r = (k : ℕ) → k ∈ s → k ∈ r
+
+-- the words r have what s have, and t too if it is so
+pub record Added (t : ℕ) (so : Bool) (s r : List ℕ) : Type 0 where
+  pub at : (k : ℕ) → member r k ≡ (member s k || (so && eqb k t))
 
 -- the set has the numbers of the list
 pub record IsSetOf (l : List ℕ) (s : TermSet) : Type 0 where

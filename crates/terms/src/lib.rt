@@ -5,7 +5,8 @@ ghost use mathlib.Core.Logic.{_↔_};
 ghost use Prim.Native.Nat.{ℕ, _≤_};
 ghost use lib.Count;
 ghost use lib.Dec.{eqb};
-ghost use Rattle.terms.specs.Set.{mem, IsSize};
+ghost use lib.ListN.{length};
+ghost use Rattle.terms.specs.Set.{member, mem, Added, IsSize};
 
 // A term's number on a sheet: never a strand's.
 pub struct Term(pub u8);
@@ -22,6 +23,24 @@ pub struct Node {
 // A set of term numbers.
 pub struct TermSet {
     pub words: [u64; 4],
+}
+
+// Whether the set of these four words has t. A pass over the terms is lent the words, so that no set is copied on the way.
+pub fn has(words: &[u64], t: Term) -> bool
+    requires { ⌜ length (now words) ≡ 4 ⌝ }
+    ensures { λ r. ⌜ r ≡ member (now (words .entry)) (t .0) ⌝ }
+{
+    (words[(t.0 / 64) as usize] >> (t.0 % 64)) % 2 == 1
+}
+
+// Puts t into it, if it is so.
+pub fn add_if(words: &mut [u64], t: Term, so: bool)
+    requires { ⌜ length (now words) ≡ 4 ⌝ }
+    ensures { λ _. ⌜ Added (t .0) so (now (words .entry)) (now (words .exit)) ⌝ }
+{
+    if so {
+        words[(t.0 / 64) as usize] |= 1u64 << (t.0 % 64);
+    }
 }
 
 // How many bits of w are set.

@@ -1,9 +1,9 @@
--- `carry::has` meets its contract: it computes what `member` says. Assumes nothing.
+-- `terms::has` meets its contract: it computes what `member` says. Assumes nothing.
 use mathlib.Core.Path.{refl}
 use borrow.Author.Needs.{needs}
 use Rattle.terms.specs.Set.{member, bit}
-use Rattle.carry.proofs.has.Statement.{statement}
-use Rattle.carry.proofs.has.Tie as tie
+use Rattle.terms.proofs.has.Statement.{statement}
+use Rattle.terms.proofs.has.Tie as tie
 
 returns : tie.Need-returns
 unfolding member bit

@@ -1,10 +1,10 @@
--- `carry::add_if` meets its contract. Assumes nothing.
+-- `terms::add_if` meets its contract. Assumes nothing.
 use mathlib.Core.Path.{sym}
 use mathlib.Core.Bool.{or-false}
 use borrow.Author.Needs.{needs}
 use Rattle.terms.proofs.Words.{member-with}
-use Rattle.carry.proofs.add_if.Statement.{statement}
-use Rattle.carry.proofs.add_if.Tie as tie
+use Rattle.terms.proofs.add_if.Statement.{statement}
+use Rattle.terms.proofs.add_if.Tie as tie
 
 returns : tie.Need-returns
 returns c =
