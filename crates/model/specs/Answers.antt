@@ -10,7 +10,7 @@ use Rattle.model.specs.Carry.{OnlyWithin}
 use Rattle.model.specs.Subst.{Subst}
 use Rattle.model.specs.Table.{Row, term}
 use Rattle.model.specs.Skeleton.{recv, Node, Skeleton, At}
-use Rattle.model.specs.Events.{DerivableBefore, Realized}
+use Rattle.model.specs.Derive.{DerivableBefore, Realized}
 use Rattle.model.specs.Sheet.{Sheet, Refusal, Verdict, Drawing, meant, HasSkeleton}
 use Rattle.model.specs.Judging.{HasVerdict}
 use Rattle.model.specs.Rising.{Rising}

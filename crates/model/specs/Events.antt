@@ -1,12 +1,10 @@
 -- "Precedence is the transitive closure of strand succession and the OR pairs, which run from a send to a reception. It
 -- has no cycle. An atom originates on a strand if some event there carries it and the first that does is a send; that
 -- node is its origin."
-use mathlib.Core.Logic.{_⊎_}
 use mathlib.Core.List.{List·Memᴰ}
 use Prim.Native.Nat.{ℕ, suc, _<_}
-use Rattle.model.specs.Term.{Atom, Term, atom}
+use Rattle.model.specs.Term.{Term}
 use Rattle.model.specs.Carry.{Carries, Occurs}
-use Rattle.model.specs.Derive.{Derivable}
 use Rattle.model.specs.Skeleton.{Event, send, recv, message, Node, Skeleton, height, At}
 
 module _ {M : Type 0} (K : Skeleton M) where
@@ -49,25 +47,3 @@ module _ (K : Skeleton Term) where
     pub event : Event Term
     pub at : At K node event
     pub occurs : Occurs t (message event)
-
-  -- "Earlier messages: those of all sends that precede the reception."
-  pub record SentBefore (n : Node) (t : Term) : Type 0 where
-    pub sender : Node
-    pub at : At K sender (send t)
-    pub before : Before K sender n
-
-  -- "Withheld: all NO atoms, and UO atoms that originate."
-  pub record Originating (t : Term) : Type 0 where
-    pub listed : List·Memᴰ t (K .uniq)
-    pub node : Node
-    pub origin : Origin t node
-
-  unfoldable pub Withheld : Atom → Type 0
-  Withheld a = List·Memᴰ (atom a) (K .non) ⊎ Originating (atom a)
-
-  unfoldable pub DerivableBefore : Node → Term → Type 0
-  DerivableBefore n t = Derivable (SentBefore n) Withheld t
-
-  -- each reception's message is derivable before it
-  unfoldable pub Realized : Type 0
-  Realized = (n : Node) (t : Term) → At K n (recv t) → DerivableBefore n t

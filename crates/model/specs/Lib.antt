@@ -10,11 +10,12 @@ pub mod Table
 pub mod Skeleton
 pub mod Sheet
 pub mod Reading
--- Derivability, the skeleton rules, and when the bench refuses:
-pub mod Derive
+-- The skeleton rules, and when the bench refuses:
 pub mod Events
 pub mod Accepting
 pub mod Judging
+-- Derivability:
+pub mod Derive
 -- Strand maps:
 pub mod Rising
 pub mod Maps

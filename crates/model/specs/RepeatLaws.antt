@@ -7,7 +7,8 @@ use Rattle.model.specs.Term.{Atom, Term, atom}
 use Rattle.model.specs.Subst.{Subst}
 use Rattle.model.specs.Table.{Row, term}
 use Rattle.model.specs.Skeleton.{Event, Node, Skeleton, At, on-message, means}
-use Rattle.model.specs.Events.{Before, next, listed, chain, Origin, InSomeEvent, SentBefore, Withheld, DerivableBefore, Realized}
+use Rattle.model.specs.Events.{Before, next, listed, chain, Origin, InSomeEvent}
+use Rattle.model.specs.Derive.{SentBefore, Withheld, DerivableBefore, Realized}
 use Rattle.model.specs.Sheet.{Drawing, meant}
 use Rattle.model.specs.Accepting.{Cyclic, Carried, OriginatesOn, OneStrand, Early, Missing, NonRight, UniqRight, Right, NonTurn, UniqTurn, Fault, a-cycle, missing, carried, not-one, early}
 use Rattle.model.specs.Maps.{Rule2, Rule3, Rule4, Rule5, Rule6, Kept}

@@ -9,9 +9,9 @@ use native.Mathlib.Omega.{arith}
 use lib.ListN.{length, getD, getElem?}
 use Rattle.model.specs.Term.{Atom, text, skey, akey, Term, mesg, atom}
 use Rattle.model.specs.Subst.{Subst, apply, on-atom}
-use Rattle.model.specs.Derive.{Derivable, given, an-atom}
+use Rattle.model.specs.Derive.{Derivable, given, an-atom, Withheld}
 use Rattle.model.specs.Skeleton.{Event, send, recv, message, Node, Skeleton, height, At}
-use Rattle.model.specs.Events.{Before, next, listed, chain, Origin, Withheld}
+use Rattle.model.specs.Events.{Before, next, listed, chain, Origin}
 use Rattle.model.specs.Maps.{move, SameDirection, both-send, both-receive, Rule2, Rule3, Rule4, Rule5, Rule6, to, IsStrandMap}
 use Rattle.model.specs.Laws.{least, derivable-closed}
 

@@ -12,7 +12,7 @@ use Rattle.terms.specs.Set.{mem}
 use Rattle.model.specs.Term.{Term}
 use Rattle.model.specs.Table.{term}
 use Rattle.model.specs.Skeleton.{recv, message, on-message, Node, Skeleton, At}
-use Rattle.model.specs.Events.{Realized}
+use Rattle.model.specs.Derive.{Realized}
 use Rattle.model.specs.Sheet.{meant}
 use Rattle.model.specs.Answers.{Sooner}
 use Rattle.model.specs.Says.{node-of}

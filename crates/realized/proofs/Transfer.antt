@@ -10,7 +10,8 @@ use Rattle.terms.specs.Set.{mem}
 use Rattle.model.specs.Term.{Atom, Term, atom}
 use Rattle.model.specs.Table.{Row, term}
 use Rattle.model.specs.Skeleton.{send, message, on-message, Node, Skeleton, At, means}
-use Rattle.model.specs.Events.{Origin, SentBefore, Originating, Withheld, DerivableBefore}
+use Rattle.model.specs.Events.{Origin}
+use Rattle.model.specs.Derive.{SentBefore, Originating, Withheld, DerivableBefore}
 use Rattle.model.specs.Sheet.{meant}
 use Rattle.model.specs.SkeletonLaws.{derivable-mono}
 use Rattle.theory.specs.Happenings.{at-means, at-meant, before-means, before-meant}

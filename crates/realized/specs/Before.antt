@@ -9,7 +9,8 @@ use Rattle.terms.specs.declared.TermSet.{TermSet}
 use Rattle.terms.specs.Set.{mem}
 use Rattle.model.specs.Table.{term}
 use Rattle.model.specs.Skeleton.{send, Node, Skeleton, At}
-use Rattle.model.specs.Events.{Before, DerivableBefore}
+use Rattle.model.specs.Events.{Before}
+use Rattle.model.specs.Derive.{DerivableBefore}
 use Rattle.model.specs.Sheet.{Drawing, meant}
 
 -- the messages of all sends that come before the node

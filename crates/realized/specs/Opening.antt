@@ -4,7 +4,7 @@ use Prim.Native.Nat.{ℕ, _<_}
 use Rattle.terms.specs.declared.Node as Code
 use Rattle.model.specs.Term.{Term}
 use Rattle.model.specs.Skeleton.{recv, Node, Skeleton, At}
-use Rattle.model.specs.Events.{DerivableBefore, Realized}
+use Rattle.model.specs.Derive.{DerivableBefore, Realized}
 use Rattle.model.specs.Answers.{FirstOpen}
 use Rattle.model.specs.Says.{node-of}
 use Rattle.origin.specs.Marked.{node}

@@ -13,7 +13,7 @@ use Rattle.model.specs.Term.{Term, same}
 use Rattle.model.specs.Carry.{OnlyWithin}
 use Rattle.model.specs.Table.{Row, term}
 use Rattle.model.specs.Skeleton.{Event, send, recv, message, Node, Skeleton, At, trace, height, means, on-message}
-use Rattle.model.specs.Events.{DerivableBefore, Realized}
+use Rattle.model.specs.Derive.{DerivableBefore, Realized}
 use Rattle.model.specs.Lists.{some-of}
 use Rattle.model.specs.Sheet.{Sheet, Verdict, Drawing, meant, HasSkeleton}
 use Rattle.model.specs.Answers.{Answer, refused, answered, refusal, Asked, no-such, too-short, said, Always, Tells, TheSheet, SaysCounts, HasTerms, Member, SaysWithin, HasReception, HasReceptionAndTerm, SaysDerivable, ReachIs, SaysReach, Sooner, strand, position, FirstOpen, realized, open-at, SaysRealized, yes-realized, first-open}

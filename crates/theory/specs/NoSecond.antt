@@ -12,7 +12,7 @@ use Rattle.model.specs.Term.{Term}
 use Rattle.model.specs.Subst.{Subst, apply}
 use Rattle.model.specs.Table.{Row, term}
 use Rattle.model.specs.Skeleton.{Node, Skeleton}
-use Rattle.model.specs.Events.{Realized}
+use Rattle.model.specs.Derive.{Realized}
 use Rattle.model.specs.Sheet.{Sheet, Verdict, Drawing, meant, HasSkeleton}
 use Rattle.model.specs.Rising.{InDictionary, first}
 use Rattle.model.specs.Maps.{to, Kept, Upto, FirstBroken, SourceVariable, Images, TheMaps}

@@ -7,12 +7,11 @@ use mathlib.Core.List.{_++_, map, List·Memᴰ·eq-of-singleton, List·Memᴰ·a
 use Prim.Native.Nat.{ℕ}
 use lib.Dec.{T}
 use Rattle.model.specs.Term.{Atom, Term, tag, mesg, atom, pair, enc, hash, inv, atom-same}
-use Rattle.model.specs.Derive.{Derivable}
+use Rattle.model.specs.Derive.{Derivable, SentBefore, Withheld, DerivableBefore}
 use lib.ListN.{length}
 use Rattle.model.specs.Lists.{upto}
 use Rattle.model.specs.Table.{Row, term}
 use Rattle.model.specs.Skeleton.{recv, Node, Skeleton, At, means}
-use Rattle.model.specs.Events.{SentBefore, Withheld, DerivableBefore}
 use Rattle.theory.specs.Upto.{in-upto, below-upto}
 use Rattle.theory.specs.GoodTable.{Good}
 use Rattle.model.specs.SkeletonLaws.{derivable-mono}

@@ -10,7 +10,8 @@ use lib.ListN.{length}
 use Rattle.model.specs.Term.{Atom, Term}
 use Rattle.model.specs.Table.{Row, term}
 use Rattle.model.specs.Skeleton.{Event, send, recv, message, Node, Skeleton, At, means, on-message}
-use Rattle.model.specs.Events.{Before, SentBefore, Withheld, DerivableBefore, Realized}
+use Rattle.model.specs.Events.{Before}
+use Rattle.model.specs.Derive.{SentBefore, Withheld, DerivableBefore, Realized}
 use Rattle.model.specs.Lists.{some-of}
 use Rattle.theory.specs.Tests.{both, pair-up, or-cases, or-left, or-right, not-not-iff}
 use Rattle.theory.specs.Each.{Each}
