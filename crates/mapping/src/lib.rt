@@ -135,16 +135,9 @@ pub fn judge_map(
     if !rule_five(table, inverses, images, from.nons, to.nons) {
         return 5;
     }
-    if !rule_six(
-        table,
-        inverses,
-        images,
-        map,
-        from.uniqs,
-        to.uniqs,
-        starts,
-        ends,
-    ) {
+    let uniqs = from.uniqs;
+    let others = to.uniqs;
+    if !rule_six(table, inverses, images, map, uniqs, others, starts, ends) {
         return 6;
     }
     0

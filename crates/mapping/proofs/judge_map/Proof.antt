@@ -130,7 +130,7 @@ returns-5 c =
 
 rule-six-requires : tie.Need-rule-six-requires
 rule-six-requires c κs =
-    let passed = c .before .before .before .before .before .before in
+    let passed = c .before .before .before .before .before .before .before .before in
     let p = start-3 passed .pre .0 in
     let one = kept-2 (passed .before .before .before .before .before) .strands in
     let source = p .asked .source in
@@ -139,7 +139,7 @@ rule-six-requires c κs =
     (images-ready (p .asked) (passed .before .before .before .matches .ensures .1), p .asked .inverses-are, starts)
 
 abbrev passed-4 : tie.After-rule-six → tie.Else4
-passed-4 c = c .before .before .before .before .before
+passed-4 c = c .before .before .before .before .before .before .before
 
 told-6 : (c : tie.After-rule-six) → let s = start-3 (passed-4 c .before .before) in
     Tells6 (rows s) (A s) (B s) (bytes s) (c .rule-six .result)
@@ -151,7 +151,7 @@ told-6 c =
 
 returns-6 : tie.Need-returns-6
 returns-6 c =
-    let passed-5 = c .before .before .before in
+    let passed-5 = c .before .before .before .before .before in
     let ordered = passed-4 (c .before) in
     let passed = ordered .before .before in
     let k = kept-2 (passed .before .before .before .before .before) in
@@ -163,7 +163,7 @@ returns-6 c =
 
 returns-7 : tie.Need-returns-7
 returns-7 c =
-    let passed-5 = c .before .before .before in
+    let passed-5 = c .before .before .before .before .before in
     let ordered = passed-4 (c .before) in
     let passed = ordered .before .before in
     let k = kept-2 (passed .before .before .before .before .before) in
