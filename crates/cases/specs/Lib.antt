@@ -2,6 +2,9 @@
 pub mod Hex
 pub mod Cases
 pub mod RuleCases
+pub mod Questions
 pub mod Refusals
+pub mod Faults
 pub mod Limits
 pub mod Longest
+pub mod Texts

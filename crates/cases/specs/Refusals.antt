@@ -1,4 +1,5 @@
--- Bad sheets for each refusal 1 to 14, some for each, for the definitions themselves. The limits are in Limits.
+-- Bad sheets for each refusal 1 to 14, some for each, for the definitions themselves. The limits are in Limits; sheets with two
+-- faults, and more of those with one, are in Faults.
 use mathlib.Core.Path.{_≡_}
 use mathlib.Core.Bool.{Bool, false, _&&_}
 use mathlib.Core.List.{List, [], _∷_, _++_}
@@ -17,7 +18,7 @@ pub record BadSheet : Type 0 where
   pub refusal : Refusal
 
 -- number, place and skeleton of the refusal
-unfoldable bad : ℕ → ℕ → ℕ → List ℕ → BadSheet
+unfoldable pub bad : ℕ → ℕ → ℕ → List ℕ → BadSheet
 bad number place skeleton bytes =
     record { bytes = bytes; refusal = record { number = number; place = place; skeleton = skeleton } }
 
@@ -90,7 +91,7 @@ bad-sheets =
 
 -- Each is given: one computation over the list
 
-unfoldable is-given : Verdict → Refusal → Bool
+unfoldable pub is-given : Verdict → Refusal → Bool
 is-given (refused q) r = eqb (q .number) (r .number) && (eqb (q .place) (r .place) && eqb (q .skeleton) (r .skeleton))
 is-given (accepted s) r = false
 
@@ -104,11 +105,11 @@ given-is (refused q) r h =
     let z : q .skeleton ≡ r .skeleton = eqb→eq _ _ c in
     λ i. refused (record { number = x i; place = y i; skeleton = z i })
 
-unfoldable refusal-given : BadSheet → Bool
+unfoldable pub refusal-given : BadSheet → Bool
 unfolding is-given verdict-of
 refusal-given b = is-given (verdict-of (b .bytes) .verdict) (b .refusal)
 
-refusal-is : (b : BadSheet) → T (refusal-given b) → IsRefused b
+pub refusal-is : (b : BadSheet) → T (refusal-given b) → IsRefused b
 unfolding refusal-given IsRefused
 refusal-is b h = rw (given-is (verdict-of (b .bytes) .verdict) (b .refusal) h) at (verdict-of (b .bytes) .is)
 

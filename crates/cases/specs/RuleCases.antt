@@ -1,7 +1,7 @@
 -- Strand maps that break one rule and no other, for each of the six, and lent space that is one byte short.
 use mathlib.Core.List.{List, [], _∷_, _++_}
 use Prim.Native.Nat.{ℕ}
-use Rattle.model.specs.Answers.{Gives, Answer, refusal, is-map, breaks, AskMap, AskList}
+use Rattle.model.specs.Answers.{Gives, Answer, is-map, breaks, AskMap, AskList}
 use Rattle.theory.specs.Each.{Each, each-nil, each-cons}
 use Rattle.theory.specs.Asking.{ask-map, ask-list}
 use Rattle.cases.specs.Hex.{hex}
@@ -205,11 +205,15 @@ rules-hold =
     (each-cons Holds kept6-holds
     (each-nil Holds))))))))))))))
 
+-- "16: lent space too short", with place 0 and skeleton 0
+abbrev no : {A : Type 0} → ℕ → Answer A
+no number = Answer.refused (record { number = number; place = 0; skeleton = 0 })
+
 -- "list space one byte short, 16": four maps of two strands are eight bytes
 abbrev seven : List ℕ
 seven = 7 ∷ 7 ∷ 7 ∷ 7 ∷ 7 ∷ 7 ∷ 7 ∷ []
 
-pub list-space-short : Gives two-texts (AskList 0 1 seven) (Answer.refused (refusal 16)) seven
+pub list-space-short : Gives two-texts (AskList 0 1 seven) (no 16) seven
 unfolding two-texts ask-list
 list-space-short = ask-list 0 1 seven two-texts .gives
 
@@ -217,6 +221,6 @@ list-space-short = ask-list 0 1 seven two-texts .gives
 abbrev three : List ℕ
 three = 1 ∷ 1 ∷ 1 ∷ []
 
-pub image-space-short : Gives two-texts (AskMap 0 1 (9 ∷ []) three) (Answer.refused (refusal 16)) three
+pub image-space-short : Gives two-texts (AskMap 0 1 (9 ∷ []) three) (no 16) three
 unfolding two-texts ask-map
 image-space-short = ask-map 0 1 (9 ∷ []) three two-texts .gives

@@ -13,13 +13,13 @@ use Rattle.model.specs.Derive.{Derivable, given, a-tag, a-mesg, an-atom,
 pub carries-itself : (t : Term) → Carries t t
 carries-itself t = here
 
--- "a pair carries what either half carries", and nothing else but itself
+-- what a pair carries is the pair or carried by a half: one direction of `pair-carries-iff`
 pub pair-carries : {t u v : Term} → Carries t (pair u v) → (t ≡ pair u v) ⊎ (Carries t u ⊎ Carries t v)
 pair-carries here = inl refl
 pair-carries (left p) = inr (inl p)
 pair-carries (right p) = inr (inr p)
 
--- "an encryption carries what its body carries, and its key only if the body does"
+-- what an encryption carries is itself or carried by its body: one direction of `enc-carries-iff`
 pub enc-carries : {t u k : Term} → Carries t (enc u k) → (t ≡ enc u k) ⊎ Carries t u
 enc-carries here = inl refl
 enc-carries (body p) = inr p
@@ -40,7 +40,7 @@ pub never-within-itself : (S : Term → Type 0) (t : Term) → ¬ OnlyWithin S t
 unfolding OnlyWithin Passes
 never-within-itself S t h = h here
 
--- a pair or an encryption in S protects what is below it
+-- an encryption in S protects what is below it; `within-pair` says so of a pair
 pub within-enc : (S : Term → Type 0) {t u k : Term} → S (enc u k) → t ≢ enc u k → OnlyWithin S t (enc u k)
 unfolding OnlyWithin Passes
 within-enc S s n here = absurd (n refl)

@@ -1,4 +1,4 @@
--- No two answers of the code say the same.
+-- What each answer of the code says, and that no two say the same.
 use mathlib.Core.Path.{_≡_, refl, ap, sym as back}
 use mathlib.Core.Bool.{true, false, true≢false}
 use Prim.Native.Nat.{ℕ}
@@ -12,8 +12,42 @@ use Rattle.model.specs.declared.RealizedAnswer.{RealizedAnswer}
 use Rattle.model.specs.declared.MapAnswer.{MapAnswer}
 use Rattle.model.specs.declared.ListAnswer.{ListAnswer}
 use Rattle.model.specs.Sheet as Sheet
-use Rattle.model.specs.Answers.{Answer, answered, refused, Counts}
+use Rattle.model.specs.Answers.{Answer, answered, refused, Counts, realized, open-at, is-map, breaks}
 use Rattle.model.specs.Says.{node-of, refusal-of, sheet-says, yes-no-says, reach-says, realized-says, map-says, list-says}
+
+-- the paper's numbers and values, each in its place
+pub sheet-values : (t k : ℕ) (r : Refusal) → (sheet-says (SheetAnswer.Good t k) ≡ answered (record { terms = t; skeletons = k }))
+    × (sheet-says (SheetAnswer.Refused r) ≡ refused (record { number = r .number; place = r .place; skeleton = r .skeleton }))
+unfolding sheet-says
+sheet-values t k r = (refl, refl)
+
+pub yes-no-values : (r : Refusal) → (yes-no-says YesNo.Yes ≡ answered true) × (yes-no-says YesNo.No ≡ answered false)
+    × (yes-no-says (YesNo.Refused r) ≡ refused (record { number = r .number; place = r .place; skeleton = r .skeleton }))
+unfolding yes-no-says
+yes-no-values r = (refl, refl, refl)
+
+pub reach-values : (n : ℕ) (r : Refusal) → (reach-says (ReachAnswer.Reach n) ≡ answered n)
+    × (reach-says (ReachAnswer.Refused r) ≡ refused (record { number = r .number; place = r .place; skeleton = r .skeleton }))
+unfolding reach-says
+reach-values n r = (refl, refl)
+
+pub realized-values : (n : Node) (r : Refusal) → (realized-says RealizedAnswer.Realized ≡ answered realized)
+    × (realized-says (RealizedAnswer.Open n) ≡ answered (open-at (record { strand = n .strand .0; position = n .position })))
+    × (realized-says (RealizedAnswer.Refused r)
+    ≡ refused (record { number = r .number; place = r .place; skeleton = r .skeleton }))
+unfolding realized-says
+realized-values n r = (refl, refl, refl)
+
+pub map-values : (k : ℕ) (r : Refusal) → (map-says MapAnswer.Yes ≡ answered is-map)
+    × (map-says (MapAnswer.Broken k) ≡ answered (breaks k))
+    × (map-says (MapAnswer.Refused r) ≡ refused (record { number = r .number; place = r .place; skeleton = r .skeleton }))
+unfolding map-says
+map-values k r = (refl, refl, refl)
+
+pub list-values : (n : ℕ) (r : Refusal) → (list-says (ListAnswer.Maps n) ≡ answered n)
+    × (list-says (ListAnswer.Refused r) ≡ refused (record { number = r .number; place = r .place; skeleton = r .skeleton }))
+unfolding list-says
+list-values n r = (refl, refl)
 
 refusal-one : (r q : Refusal) → refusal-of r ≡ refusal-of q → r ≡ q
 unfolding refusal-of

@@ -180,7 +180,7 @@ sheet-bytes s w =
     let d = skeletons-bytes (s .rows) (s .skeletons) (w .drawings) in
     omega (arith, w .few, w .table .few, bytes-append R (S ++ (end ∷ [])), bytes-append S (end ∷ []))
 
-read-length : {bytes : List ℕ} {s : Sheet} → Encoded bytes s → length bytes ≤ 2581
+pub read-length : {bytes : List ℕ} {s : Sheet} → Encoded bytes s → length bytes ≤ 2581
 unfolding encoding
 read-length {s} e = rw (e .is) (sheet-bytes s (e .within))
 

@@ -49,6 +49,7 @@ pub mod Readable
 pub mod Continued
 pub mod Judgement
 pub mod Verdicts
+pub mod FirstBytes
 -- The questions: exactly one answer to each, the agreement, and how large the numbers of an answer are.
 pub mod NoSecond
 pub mod Answering
