@@ -1,7 +1,7 @@
 /*
  * The judge for protocol drawings: seven questions about a bench sheet.
  *
- * Link target/staticlib/libexports.a, which `rt staticlib exports` makes (x86-64).
+ * Link crates/exports/out/libexports.a, which `rt lib` makes in crates/exports (x86-64).
  *
  * Slices: each is a pointer and a length in bytes. Where the length is 0 the pointer may be null. Any bytes may be given as a
  * sheet. What a function may write to (`images`, `space`) must not overlap anything else that the same call is given.

@@ -6,14 +6,14 @@ use native.Mathlib.Omega.{arith}
 use native.Mathlib.Decide.{dec_lt}
 use lib.ListN.{length}
 use Rattle.model.specs.Sheet.{Verdict, Drawing, HasSkeleton}
-use Rattle.model.specs.Accepting as Accepting
 use Rattle.model.specs.Accepting.{Accepting, Lacking, Right}
 use Rattle.model.specs.Judging.{unread, judged}
 use Rattle.model.specs.Reading.{Read, start, read}
 use Rattle.model.specs.Says.{refusal_of}
-use Rattle.theory.specs.Judgement.{Raw, good_of}
+use Rattle.theory.specs.Judgement.{Raw}
+use Rattle.theory.proofs.Judgement.{good_of}
 use Rattle.theory.specs.Standing.{Fair}
-use Rattle.theory.specs.Verdicts.{verdict_sound}
+use Rattle.theory.proofs.Verdicts.{verdict_sound}
 use Rattle.tables.specs.Layout.{block, skeleton_count}
 use Rattle.theory.specs.Upto.{length-upto}
 use Rattle.tables.specs.Tables.{byte, rows_of, rows_in, sheet_in, Filled}

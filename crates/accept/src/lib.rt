@@ -1,4 +1,6 @@
 // A sheet read and accepted into lent tables: what every question starts from.
+#![tactic(auto)]
+
 ghost use Rattle.std.specs.Prelude.{◌≡◌, List, ℕ, ◌+◌, ◌*◌, ◌<◌, ◌≤◌, length};
 ghost use Rattle.model.specs.Accepting.{Lacking};
 ghost use Rattle.theory.specs.Judgement.{Raw};
@@ -15,7 +17,7 @@ use rules::{Fault, judge};
 use tables::blocks::block_of;
 use tables::{MOST_TERMS, SKELETON_COUNT, wide};
 
-#[derive(Drop)]
+#[derive(Clone, Copy)]
 pub enum Accepted {
     Good,
     Refused(Refusal),

@@ -18,7 +18,7 @@ use Rattle.model.specs.Lines.{sheet_line, maps_line}
 use Rattle.theory.specs.Encoding.{WithinLimits, read_encoded}
 use Rattle.theory.specs.Upto.{length-upto}
 use Rattle.theory.specs.NoSecond.{maps_one}
-use Rattle.theory.specs.Verdicts.{verdict_one, accepting_same}
+use Rattle.theory.proofs.Verdicts.{verdict_one, accepting_same}
 use Rattle.tables.specs.Layout.{block, strand_count}
 use Rattle.tables.specs.Tables.{byte, sheet_in, skeleton_at, strands_at, trace_at}
 use Rattle.accept.specs.Held.{Held}

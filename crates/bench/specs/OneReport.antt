@@ -5,9 +5,9 @@ use Rattle.model.specs.Sheet.{Sheet, Refusal, Verdict, Drawing}
 use Rattle.model.specs.Judging.{HasVerdict}
 use Rattle.model.specs.Answers.{answered, refused, Gives, Counts, AskSheet, Openness, AskRealized, HasSkeletons, ListRoom}
 use Rattle.model.specs.Lines.{sheet_line, skeleton_line, maps_line}
-use Rattle.theory.specs.Verdicts.{verdict_one}
+use Rattle.theory.proofs.Verdicts.{verdict_one}
 use Rattle.theory.specs.NoSecond.{one_drawing, maps_one}
-use Rattle.theory.specs.Pinned.{pinned}
+use Rattle.theory.proofs.Pinned.{pinned}
 use Rattle.model.specs.Report.{map_lines, ListText, listed, no_room, Reports, bad, one, two, Output}
 use Rattle.bench.specs.Report.{Reported}
 

@@ -1,4 +1,6 @@
 // The bench program: reads a sheet from standard input and writes its report to standard output.
+#![tactic(auto)]
+
 ghost use Rattle.std.specs.Prelude.{◌≡◌, ◌+◌, ◌*◌, ◌≤◌, length, take, drop};
 ghost use Rattle.model.specs.Lines.{map_line};
 ghost use Rattle.lines.specs.Written.{Put, Line};
@@ -7,9 +9,10 @@ ghost use Rattle.bench.specs.Steps.{StrandsOf, lines_upto, SkeletonTold, ListTol
 
 use accept::{Accepted, BEFORE, INVERSES, accept};
 use judge::{list, realized, sheet};
-use libc::{STDIN_FILENO, STDOUT_FILENO};
 use lines::{map_line, maps_line, sheet_line, skeleton_line};
 use model::{ListAnswer, SheetAnswer};
+use std::io;
+use std::io::{Read, Write};
 use tables::TABLE;
 use tables::blocks::strands_in;
 
@@ -118,12 +121,26 @@ fn report_space() -> [u8; REPORT]
     [0; REPORT]
 }
 
-// The first 4,096 bytes decide. A read that fails ends the sheet where it stands.
-fn main() {
-    let mut bytes = io::buffer();
-    let length = io::read_full(STDIN_FILENO, &mut bytes);
+// Reads until the buffer is full, the input ends or a read fails, and says how many bytes were read.
+fn read_full<R: Read>(reader: &mut R, bytes: &mut [u8]) -> usize
+    ensures { result ≤ length bytes.new }
+{
+    let mut length = 0;
+    while length < bytes.len() {
+        match reader.read(&mut bytes[length..]) {
+            Ok(more) if more > 0 => length += more,
+            _ => break,
+        }
+    }
+    length
+}
+
+// The first 4,096 bytes decide. A read that fails ends the sheet where it stands; a write that fails ends the program with its error.
+fn main(rt: HostRuntime) -> io::Result<()> {
+    let mut bytes = [0u8; 4096];
+    let length = read_full(&mut rt.reader(), &mut bytes);
     let mut space = list_space();
     let mut out = report_space();
     let end = report(&bytes[..length], &mut space, &mut out);
-    io::write_all(STDOUT_FILENO, &out[..end]);
+    io::writer(&rt).write_all(&out[..end])
 }

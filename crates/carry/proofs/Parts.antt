@@ -17,7 +17,7 @@ use Rattle.theory.specs.Tests.{or_cases, or_left, or_right}
 use Rattle.theory.specs.GoodTable.{Good, Earlier, Sorted, IsName, IsKey}
 use Rattle.theory.specs.Numbers.{row_of, law, term_law, number, name_shown, key_shown}
 use Rattle.theory.specs.OnSheet.{OnSheet, on_pair, on_enc, on_hash, number_inside, row_at_number}
-use Rattle.theory.specs.Occurring.{occurs_on}
+use Rattle.theory.proofs.Occurring.{occurs_on}
 use Rattle.carry.specs.Next.{has_first, has_second, is_part, is_carried}
 
 -- an earlier term that occurs in the term i
@@ -80,6 +80,7 @@ module _ (rows : List Row) (good : Good rows) where
   part_occurs i k h (Hash a) e p =
       let c : a < i = rw e at (good.earlier i h) in
       the_one (PartOf rows i) a k (record { below = c; occurs = rw (law rows good i h e) (Occurs.hashed Occurs.here) }) p
+  part_occurs i k h _ e p = elim p [ ]
 
   pub part_carried : (i k : ℕ) → i < length rows → (r : Row) → row rows i ≡ r → T (is_carried r k) → CarriedPart rows i k
   unfolding is_carried kind first second meaning Earlier
@@ -91,6 +92,7 @@ module _ (rows : List Row) (good : Good rows) where
   part_carried i k h (Enc a b) e p =
       let c : (a < i) × (b < i) = rw e at (good.earlier i h) in
       the_one (CarriedPart rows i) a k (record { below = c.0; carries = rw (law rows good i h e) (Carries.body Carries.here) }) p
+  part_carried i k h _ e p = elim p [ ]
 
   -- Of a set that has what its members carry
   module _ (s : TermSet) (closed : (j k : ℕ) → j < length rows → T (mem s j) → T (is_carried (row rows j) k) → T (mem s k)) where

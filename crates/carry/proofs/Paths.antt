@@ -58,6 +58,7 @@ module _ (rows : List Row) (good : Good rows) (set known : TermSet) (t i : ℕ) 
       ⊎_elim (λ k. rw l (Loose.left m (known_free a k))) (λ k. rw l (Loose.right m (known_free b k)))
       (or_cases (mem known a) (mem known b) (rw or-false at h))
   by_part (Enc a b) e n h = let l = law rows good i inside e in rw l (Loose.body (rw l at (unmarked n)) (known_free a h))
+  by_part _ e n h = elim h [ ]
 
   next_loose : T (loose_next (mem set) (mem known) t i (row rows i)) → FreeAt rows set t i
   unfolding loose_next

@@ -26,6 +26,7 @@ module _ (rows : List Row) (good : Good rows) (i : ℕ) (inside : i < length row
   row_variable (Name n) e h = rw (law rows good i inside e) a_name
   row_variable (Skey n) e h = rw (law rows good i inside e) an_skey
   row_variable (Akey n) e h = rw (law rows good i inside e) an_akey
+  row_variable _ e h = elim h [ ]
 
   variable_row : {u : Term} → Variable u → T (is_variable (row_of (number rows) u))
   unfolding is_variable kind row_of

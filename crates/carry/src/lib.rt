@@ -1,5 +1,7 @@
 // Which terms carry a term, in which it is carried outside a set, and which occur in others: each term of the table is visited
 // once. A pass over the table is lent the words of the sets, so that nothing is copied on the way.
+#![tactic(auto)]
+
 ghost use Rattle.std.specs.Prelude.{◌≡◌, true, [], ◌∷◌, ◌↔◌, ◌≤◌, ◌<◌, length};
 ghost use Rattle.terms.specs.Set.{member, IsSetOf};
 ghost use Rattle.theory.specs.GoodTable.{Good};

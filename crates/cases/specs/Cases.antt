@@ -2,8 +2,6 @@
 use Rattle.std.specs.Prelude.{◌≡◌, refl, List, [], ◌∷◌, ◌++◌, ℕ, length}
 use Rattle.model.specs.Skeleton.{Node}
 use Rattle.model.specs.Answers.{Gives, answered, Openness, realized, open_at, AskReach, AskRealized, Mapping, is_map, breaks, AskMap, AskList}
-use Rattle.theory.specs.Each.{Each, each_nil, each_cons}
-use Rattle.theory.specs.Asking.{ask_reach, ask_realized, ask_map, ask_list}
 use Rattle.cases.specs.Hex.{hex}
 
 -- The sheets
@@ -77,7 +75,7 @@ one_unique = texts ++ hex "534b / 5354 01 0000 / 554f 00 / 534b / 5354 01 0002 /
 
 -- The cases: what is asked of which bytes, and what the answer is
 
-abbrev node : ℕ → ℕ → Node
+abbrev pub node : ℕ → ℕ → Node
 node s p = record { strand = s; position = p }
 
 pub data Case : Type 0 where
@@ -91,10 +89,10 @@ pub data Case : Type 0 where
   judges : List ℕ → List ℕ → Mapping → List ℕ → Case
 
 -- what is lent to a list and to a map
-abbrev list_space : List ℕ
+abbrev pub list_space : List ℕ
 list_space = 7 ∷ 7 ∷ 7 ∷ 7 ∷ 7 ∷ 7 ∷ 7 ∷ 7 ∷ []
 
-abbrev image_space : List ℕ
+abbrev pub image_space : List ℕ
 image_space = 1 ∷ 1 ∷ 1 ∷ 1 ∷ 1 ∷ 1 ∷ 1 ∷ 1 ∷ 1 ∷ 1 ∷ []
 
 -- the bytes have a verdict, and with it the question has this answer
@@ -104,131 +102,51 @@ Holds (reaches bytes k n count) = Gives bytes (AskReach k n) (answered count) []
 Holds (maps bytes count after) = Gives bytes (AskList 0 1 list_space) (answered count) after
 Holds (judges bytes map a after) = Gives bytes (AskMap 0 1 map image_space) (answered a) after
 
-abbrev P1 : Case
+abbrev pub P1 : Case
 P1 = openness paper 0 (open_at (node 0 1))
 
-abbrev P2 : Case
+abbrev pub P2 : Case
 P2 = reaches paper 0 (node 0 1) 4
 
-abbrev P3 : Case
+abbrev pub P3 : Case
 P3 = openness paper 1 realized
 
-abbrev P3_reach : Case
+abbrev pub P3_reach : Case
 P3_reach = reaches paper 1 (node 0 1) 5
 
-abbrev P4 : Case
+abbrev pub P4 : Case
 P4 = maps paper 1 (0 ∷ 7 ∷ 7 ∷ 7 ∷ 7 ∷ 7 ∷ 7 ∷ 7 ∷ [])
 
-abbrev P4_images : Case
+abbrev pub P4_images : Case
 P4_images = judges paper (0 ∷ []) is_map (0 ∷ 1 ∷ 2 ∷ 3 ∷ 255 ∷ 255 ∷ 255 ∷ 255 ∷ 255 ∷ 1 ∷ [])
 
-abbrev P4_other : Case
+abbrev pub P4_other : Case
 P4_other = judges paper (1 ∷ []) (breaks 2) image_space
 
-abbrev P5 : Case
+abbrev pub P5 : Case
 P5 = openness shape 0 realized
 
-abbrev P6 : Case
+abbrev pub P6 : Case
 P6 = openness leak 0 realized
 
-abbrev P7 : Case
+abbrev pub P7 : Case
 P7 = openness no_leak 0 (open_at (node 2 0))
 
-abbrev P8 : Case
+abbrev pub P8 : Case
 P8 = openness lone_tag 0 realized
 
-abbrev P9 : Case
+abbrev pub P9 : Case
 P9 = openness lone_hash 0 (open_at (node 0 0))
 
-abbrev P10 : Case
+abbrev pub P10 : Case
 P10 = maps two_texts 4 (0 ∷ 0 ∷ 0 ∷ 1 ∷ 1 ∷ 0 ∷ 1 ∷ 1 ∷ [])
 
-abbrev P11 : Case
+abbrev pub P11 : Case
 P11 = maps one_text 2 (0 ∷ 0 ∷ 1 ∷ 1 ∷ 7 ∷ 7 ∷ 7 ∷ 7 ∷ [])
 
-abbrev P12 : Case
+abbrev pub P12 : Case
 P12 = maps one_unique 1 (0 ∷ 7 ∷ 7 ∷ 7 ∷ 7 ∷ 7 ∷ 7 ∷ 7 ∷ [])
 
 abbrev pub cases : List Case
 cases =
     P1 ∷ P2 ∷ P3 ∷ P3_reach ∷ P4 ∷ P4_images ∷ P4_other ∷ P5 ∷ P6 ∷ P7 ∷ P8 ∷ P9 ∷ P10 ∷ P11 ∷ P12 ∷ []
-
-P1_holds : Holds P1
-unfolding Holds paper ask_realized
-P1_holds = (ask_realized 0 paper).gives
-
-P2_holds : Holds P2
-unfolding Holds paper ask_reach
-P2_holds = (ask_reach 0 (node 0 1) paper).gives
-
-P3_holds : Holds P3
-unfolding Holds paper ask_realized
-P3_holds = (ask_realized 1 paper).gives
-
-P3_reach_holds : Holds P3_reach
-unfolding Holds paper ask_reach
-P3_reach_holds = (ask_reach 1 (node 0 1) paper).gives
-
-P4_holds : Holds P4
-unfolding Holds paper ask_list
-P4_holds = (ask_list 0 1 list_space paper).gives
-
-P4_images_holds : Holds P4_images
-unfolding Holds paper ask_map
-P4_images_holds = (ask_map 0 1 (0 ∷ []) image_space paper).gives
-
-P4_other_holds : Holds P4_other
-unfolding Holds paper ask_map
-P4_other_holds = (ask_map 0 1 (1 ∷ []) image_space paper).gives
-
-P5_holds : Holds P5
-unfolding Holds shape ask_realized
-P5_holds = (ask_realized 0 shape).gives
-
-P6_holds : Holds P6
-unfolding Holds leak ask_realized
-P6_holds = (ask_realized 0 leak).gives
-
-P7_holds : Holds P7
-unfolding Holds no_leak ask_realized
-P7_holds = (ask_realized 0 no_leak).gives
-
-P8_holds : Holds P8
-unfolding Holds lone_tag ask_realized
-P8_holds = (ask_realized 0 lone_tag).gives
-
-P9_holds : Holds P9
-unfolding Holds lone_hash ask_realized
-P9_holds = (ask_realized 0 lone_hash).gives
-
-P10_holds : Holds P10
-unfolding Holds two_texts ask_list
-P10_holds = (ask_list 0 1 list_space two_texts).gives
-
-P11_holds : Holds P11
-unfolding Holds one_text ask_list
-P11_holds = (ask_list 0 1 list_space one_text).gives
-
-P12_holds : Holds P12
-unfolding Holds one_unique ask_list
-P12_holds = (ask_list 0 1 list_space one_unique).gives
-
--- THE CLAIM
-pub all_hold : Each Holds cases
-all_hold =
-    each_cons Holds P1_holds
-    (each_cons Holds P2_holds
-    (each_cons Holds P3_holds
-    (each_cons Holds P3_reach_holds
-    (each_cons Holds P4_holds
-    (each_cons Holds P4_images_holds
-    (each_cons Holds P4_other_holds
-    (each_cons Holds P5_holds
-    (each_cons Holds P6_holds
-    (each_cons Holds P7_holds
-    (each_cons Holds P8_holds
-    (each_cons Holds P9_holds
-    (each_cons Holds P10_holds
-    (each_cons Holds P11_holds
-    (each_cons Holds P12_holds
-    (each_nil Holds)))))))))))))))

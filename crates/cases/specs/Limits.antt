@@ -3,8 +3,8 @@ use Rattle.std.specs.Prelude.{List, [], ◌∷◌, ◌++◌, ℕ, zero, suc}
 use Rattle.model.specs.Sheet.{refused}
 use Rattle.model.specs.Judging.{HasVerdict}
 use Rattle.model.specs.Answers.{Gives, answered, AskSheet}
-use Rattle.theory.specs.Verdicts.{verdict_of}
-use Rattle.theory.specs.Asking.{ask_sheet}
+use Rattle.theory.proofs.Verdicts.{verdict_of}
+use Rattle.theory.proofs.Asking.{ask_sheet}
 use Rattle.cases.specs.Hex.{hex}
 
 -- a record n times

@@ -17,7 +17,7 @@ use Rattle.model.specs.Reading.{start, read, Read}
 use Rattle.model.specs.Accepting.{Lacking, Cyclic, NonRight, UniqRight, Right, right}
 use Rattle.model.specs.Judging.{HasVerdict, judged}
 use Rattle.model.specs.Answers.{said, Gives, answered, AskSheet}
-use Rattle.model.specs.Laws.{atom_carries, hash_carries}
+use Rattle.model.proofs.Laws.{atom_carries, hash_carries}
 use Rattle.theory.specs.Places.{in_list, listed_at}
 use Rattle.theory.specs.ListTests.{all_of, all_each}
 use Rattle.theory.specs.Happenings.{at_means, at_meant}

@@ -9,7 +9,7 @@ use Rattle.model.specs.Answers.{Gives, Answer, refused, answered, AskWithin, Ask
 use Rattle.theory.specs.Tests.{both}
 use Rattle.theory.specs.Each.{Each}
 use Rattle.theory.specs.ListTests.{all_of, all_each}
-use Rattle.theory.specs.Asking.{Answered, ask_within, ask_derivable, ask_reach, ask_realized, ask_map, ask_list}
+use Rattle.theory.proofs.Asking.{Answered, ask_within, ask_derivable, ask_reach, ask_realized, ask_map, ask_list}
 use Rattle.cases.specs.Hex.{hex}
 use Rattle.cases.specs.Cases.{paper, two_texts}
 
@@ -167,6 +167,8 @@ bools = record { same = go }
     go : (x y : Bool) → T (same_bool x y) → x ≡ y
     go true true h = refl
     go false false h = refl
+    go false true h = elim h [ ]
+    go true false h = elim h [ ]
 
 numbers : Tests eqb
 numbers = record { same = eqb→eq }
@@ -188,6 +190,8 @@ opennesses = record { same = go }
         let s : m.strand ≡ n.strand = eqb→eq _ _ a in
         let p : m.position ≡ n.position = eqb→eq _ _ b in
         λ i. open_at (record { strand = s i; position = p i })
+    go realized (open_at n) h = elim h [ ]
+    go (open_at m) realized h = elim h [ ]
 
 unfoldable pub same_mapping : Mapping → Mapping → Bool
 same_mapping is_map is_map = true
@@ -202,6 +206,8 @@ mappings = record { same = go }
     go : (x y : Mapping) → T (same_mapping x y) → x ≡ y
     go is_map is_map h = refl
     go (breaks j) (breaks k) h = ap breaks (eqb→eq j k h)
+    go is_map (breaks k) h = elim h [ ]
+    go (breaks j) is_map h = elim h [ ]
 
 unfoldable pub same_bytes : List ℕ → List ℕ → Bool
 same_bytes [] [] = true
@@ -215,6 +221,8 @@ bytes_same [] [] h = refl
 bytes_same (x ∷ l) (y ∷ m) h =
     let (a, b) = both (eqb x y) (same_bytes l m) h in
     ap₂ (λ z k. z ∷ k) (eqb→eq x y a) (bytes_same l m b)
+bytes_same [] (y ∷ m) h = elim h [ ]
+bytes_same (x ∷ l) [] h = elim h [ ]
 
 unfoldable pub same_refusal : Refusal → Refusal → Bool
 same_refusal q r = eqb q.number r.number && (eqb q.place r.place && eqb q.skeleton r.skeleton)
@@ -240,6 +248,8 @@ answers_same : {A : Type 0} {test : A → A → Bool} → Tests test → (a b : 
 unfolding same_answer
 answers_same s (refused q) (refused r) h = ap refused (refusals_same q r h)
 answers_same s (answered x) (answered y) h = ap answered (s.same x y h)
+answers_same {A = A} {test = test} s (refused q) (answered y) h = elim h [ ]
+answers_same {A = A} {test = test} s (answered x) (refused r) h = elim h [ ]
 
 module _ {A : Type 0} (test : A → A → Bool) {bytes : List ℕ} {Q : Verdict → Answer A → List ℕ → Type 0} where
   unfoldable pub answer_is : Answered bytes Q → Answer A → List ℕ → Bool

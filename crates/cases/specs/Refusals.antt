@@ -7,7 +7,7 @@ use Rattle.model.specs.Judging.{HasVerdict}
 use Rattle.theory.specs.Tests.{both}
 use Rattle.theory.specs.Each.{Each}
 use Rattle.theory.specs.ListTests.{all_of, all_each}
-use Rattle.theory.specs.Verdicts.{verdict_of}
+use Rattle.theory.proofs.Verdicts.{verdict_of}
 use Rattle.cases.specs.Hex.{hex}
 
 pub record BadSheet : Type 0 where
@@ -101,6 +101,7 @@ given_is (refused q) r h =
     let y : q.place ≡ r.place = eqb→eq _ _ b in
     let z : q.skeleton ≡ r.skeleton = eqb→eq _ _ c in
     λ i. refused (record { number = x i; place = y i; skeleton = z i })
+given_is (accepted _) r h = elim h [ ]
 
 unfoldable pub refusal_given : BadSheet → Bool
 unfolding is_given verdict_of

@@ -1,10 +1,9 @@
 -- Strand maps that break one rule and no other, for each of the six, and lent space that is one byte short.
 use Rattle.std.specs.Prelude.{List, [], ◌∷◌, ◌++◌, ℕ}
 use Rattle.model.specs.Answers.{Gives, Answer, is_map, breaks, AskMap, AskList}
-use Rattle.theory.specs.Each.{Each, each_nil, each_cons}
-use Rattle.theory.specs.Asking.{ask_map, ask_list}
+use Rattle.theory.proofs.Asking.{ask_map, ask_list}
 use Rattle.cases.specs.Hex.{hex}
-use Rattle.cases.specs.Cases.{two_texts, one_text, Case, judges, Holds}
+use Rattle.cases.specs.Cases.{two_texts, one_text, Case, judges}
 
 -- The sheets
 
@@ -60,55 +59,55 @@ here =
 
 -- The cases
 
-abbrev space : List ℕ
+abbrev pub space : List ℕ
 space = 1 ∷ 1 ∷ 1 ∷ 1 ∷ 1 ∷ 1 ∷ 1 ∷ 1 ∷ 1 ∷ 1 ∷ []
 
 -- (1) a byte is no target strand; there is a byte too few; there is one too many
-abbrev rule1_strand : Case
+abbrev pub rule1_strand : Case
 rule1_strand = judges two_texts (0 ∷ 2 ∷ []) (breaks 1) space
 
-abbrev rule1_few : Case
+abbrev pub rule1_few : Case
 rule1_few = judges two_texts (0 ∷ []) (breaks 1) space
 
-abbrev rule1_many : Case
+abbrev pub rule1_many : Case
 rule1_many = judges two_texts (0 ∷ 1 ∷ 0 ∷ []) (breaks 1) space
 
 -- (2) a direction differs; the target strand is too short; it may be longer
-abbrev rule2_direction : Case
+abbrev pub rule2_direction : Case
 rule2_direction = judges directions (0 ∷ []) (breaks 2) space
 
-abbrev rule2_height : Case
+abbrev pub rule2_height : Case
 rule2_height = judges directions (1 ∷ []) (breaks 2) space
 
-abbrev rule2_kept : Case
+abbrev pub rule2_kept : Case
 rule2_kept = judges directions (2 ∷ []) is_map (1 ∷ 255 ∷ 1 ∷ 1 ∷ 1 ∷ 1 ∷ 1 ∷ 1 ∷ 1 ∷ 1 ∷ [])
 
 -- (3) one text would have to go to two
-abbrev rule3_two : Case
+abbrev pub rule3_two : Case
 rule3_two = judges one_text (0 ∷ 1 ∷ []) (breaks 3) space
 
 -- (4) precedence, kept by any way through the target
-abbrev rule4_lost : Case
+abbrev pub rule4_lost : Case
 rule4_lost = judges ordered (0 ∷ 1 ∷ []) (breaks 4) space
 
-abbrev rule4_kept : Case
+abbrev pub rule4_kept : Case
 rule4_kept = judges ordered_both (0 ∷ 1 ∷ []) is_map (255 ∷ 1 ∷ 1 ∷ 1 ∷ 1 ∷ 1 ∷ 1 ∷ 1 ∷ 1 ∷ 1 ∷ [])
 
 -- (5) images of NO atoms
-abbrev rule5_lost : Case
+abbrev pub rule5_lost : Case
 rule5_lost = judges withheld (0 ∷ []) (breaks 5) space
 
-abbrev rule5_kept : Case
+abbrev pub rule5_kept : Case
 rule5_kept = judges withheld_both (0 ∷ []) is_map (0 ∷ 255 ∷ 1 ∷ 1 ∷ 1 ∷ 1 ∷ 1 ∷ 1 ∷ 1 ∷ 1 ∷ [])
 
 -- (6) images of UO atoms, and their origins
-abbrev rule6_lost : Case
+abbrev pub rule6_lost : Case
 rule6_lost = judges unique (0 ∷ []) (breaks 6) space
 
-abbrev rule6_elsewhere : Case
+abbrev pub rule6_elsewhere : Case
 rule6_elsewhere = judges elsewhere (0 ∷ []) (breaks 6) space
 
-abbrev rule6_kept : Case
+abbrev pub rule6_kept : Case
 rule6_kept = judges here (0 ∷ []) is_map (1 ∷ 255 ∷ 3 ∷ 255 ∷ 1 ∷ 1 ∷ 1 ∷ 1 ∷ 1 ∷ 1 ∷ [])
 
 abbrev pub rule_cases : List Case
@@ -128,81 +127,6 @@ rule_cases =
     ∷ rule6_elsewhere
     ∷ rule6_kept
     ∷ []
-
-strand_holds : Holds rule1_strand
-unfolding Holds two_texts ask_map
-strand_holds = (ask_map 0 1 (0 ∷ 2 ∷ []) space two_texts).gives
-
-few_holds : Holds rule1_few
-unfolding Holds two_texts ask_map
-few_holds = (ask_map 0 1 (0 ∷ []) space two_texts).gives
-
-many_holds : Holds rule1_many
-unfolding Holds two_texts ask_map
-many_holds = (ask_map 0 1 (0 ∷ 1 ∷ 0 ∷ []) space two_texts).gives
-
-direction_holds : Holds rule2_direction
-unfolding Holds directions ask_map
-direction_holds = (ask_map 0 1 (0 ∷ []) space directions).gives
-
-height_holds : Holds rule2_height
-unfolding Holds directions ask_map
-height_holds = (ask_map 0 1 (1 ∷ []) space directions).gives
-
-kept2_holds : Holds rule2_kept
-unfolding Holds directions ask_map
-kept2_holds = (ask_map 0 1 (2 ∷ []) space directions).gives
-
-two_holds : Holds rule3_two
-unfolding Holds one_text ask_map
-two_holds = (ask_map 0 1 (0 ∷ 1 ∷ []) space one_text).gives
-
-lost4_holds : Holds rule4_lost
-unfolding Holds ordered ask_map
-lost4_holds = (ask_map 0 1 (0 ∷ 1 ∷ []) space ordered).gives
-
-kept4_holds : Holds rule4_kept
-unfolding Holds ordered_both ask_map
-kept4_holds = (ask_map 0 1 (0 ∷ 1 ∷ []) space ordered_both).gives
-
-lost5_holds : Holds rule5_lost
-unfolding Holds withheld ask_map
-lost5_holds = (ask_map 0 1 (0 ∷ []) space withheld).gives
-
-kept5_holds : Holds rule5_kept
-unfolding Holds withheld_both ask_map
-kept5_holds = (ask_map 0 1 (0 ∷ []) space withheld_both).gives
-
-lost6_holds : Holds rule6_lost
-unfolding Holds unique ask_map
-lost6_holds = (ask_map 0 1 (0 ∷ []) space unique).gives
-
-elsewhere_holds : Holds rule6_elsewhere
-unfolding Holds elsewhere ask_map
-elsewhere_holds = (ask_map 0 1 (0 ∷ []) space elsewhere).gives
-
-kept6_holds : Holds rule6_kept
-unfolding Holds here ask_map
-kept6_holds = (ask_map 0 1 (0 ∷ []) space here).gives
-
--- THE CLAIM
-pub rules_hold : Each Holds rule_cases
-rules_hold =
-    each_cons Holds strand_holds
-    (each_cons Holds few_holds
-    (each_cons Holds many_holds
-    (each_cons Holds direction_holds
-    (each_cons Holds height_holds
-    (each_cons Holds kept2_holds
-    (each_cons Holds two_holds
-    (each_cons Holds lost4_holds
-    (each_cons Holds kept4_holds
-    (each_cons Holds lost5_holds
-    (each_cons Holds kept5_holds
-    (each_cons Holds lost6_holds
-    (each_cons Holds elsewhere_holds
-    (each_cons Holds kept6_holds
-    (each_nil Holds))))))))))))))
 
 -- "16: lent space too short", with place 0 and skeleton 0
 abbrev no : {A : Type 0} → ℕ → Answer A

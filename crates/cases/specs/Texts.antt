@@ -11,10 +11,10 @@ use Rattle.model.specs.Maps.{TheMaps}
 use Rattle.model.specs.Answers.{Gives, Answer, answered, AskSheet, realized, open_at, AskRealized, HasSkeletons, ListRoom}
 use Rattle.model.specs.Lines.{ascii, sheet_line, skeleton_line, maps_line}
 use Rattle.model.specs.Report.{map_lines, ListText, listed, no_room, Reports, bad, one, two, Output}
-use Rattle.theory.specs.Verdicts.{verdict_of, verdict_sound}
+use Rattle.theory.proofs.Verdicts.{verdict_of, verdict_sound}
 use Rattle.theory.specs.NoSecond.{maps_one}
-use Rattle.theory.specs.Listing.{maps_of, maps_are}
-use Rattle.theory.specs.Asking.{ask_sheet, ask_realized}
+use Rattle.theory.proofs.Listing.{maps_of, maps_are}
+use Rattle.theory.proofs.Asking.{ask_sheet, ask_realized}
 use Rattle.cases.specs.Cases.{paper, lone_hash, two_texts}
 
 abbrev node : ℕ → ℕ → Node

@@ -1,1 +1,2 @@
-// The paper's cases, for the definitions themselves. They stand in specs/; there is no code.
+// The paper's cases, for the definitions themselves. They stand in specs/ and proofs/; there is no code.
+#![tactic(auto)]

@@ -5,8 +5,8 @@ use Rattle.model.specs.Skeleton.{Node}
 use Rattle.model.specs.Sheet.{Refusal, Verdict}
 use Rattle.model.specs.Answers.{Answer, Gives, Counts, Openness, Mapping, AskSheet, AskWithin, AskDerivable, AskReach, AskRealized, AskMap, AskList}
 use Rattle.theory.specs.NoSecond.{Same}
-use Rattle.theory.specs.Pinned.{ExactlyOne, pinned}
-use Rattle.theory.specs.Sizes.{LowRefusal, LowAnswer, low_refusal, low_answer, LowCounts, sheet_low, Any, within_low, derivable_low, reach_low, LowOpenness, low_realized, low_open, realized_low, LowMapping, low_map, low_rule, map_low, list_low}
+use Rattle.theory.proofs.Pinned.{ExactlyOne, pinned}
+use Rattle.theory.proofs.Sizes.{LowRefusal, LowAnswer, low_refusal, low_answer, LowCounts, sheet_low, Any, within_low, derivable_low, reach_low, LowOpenness, low_realized, low_open, realized_low, LowMapping, low_map, low_rule, map_low, list_low}
 use Rattle.exports.specs.Words.{sheet_word, yes_no_word, count_word, realized_word, map_word, FitsRefusal, FitsSheet, FitsYesNo, FitsCount, FitsRealized, FitsMap, sheet_word_one, yes_no_word_one, count_word_one, realized_word_one, map_word_one}
 use Rattle.exports.specs.Said.{SaidAs}
 

@@ -1,4 +1,6 @@
 // The questions for C and Rust: each answer is one word. What the words say is in specs/Words.antt.
+#![tactic(auto)]
+
 ghost use Rattle.std.specs.Prelude.{◌≡◌, [], ◌≤◌, ◌<◌};
 ghost use Rattle.model.specs.Answers.{AskSheet, AskWithin, AskDerivable, AskReach, AskRealized, AskMap, AskList};
 ghost use Rattle.model.specs.Says.{refusal_of, yes_no_says};

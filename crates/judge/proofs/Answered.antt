@@ -17,7 +17,7 @@ use Rattle.model.specs.Judging.{HasVerdict}
 use Rattle.model.specs.Answers.{Answer, answered, refused, Asked, bad_sheet, said, Gives, open_at, breaks, AskSheet, AskWithin, AskDerivable, AskReach, AskRealized, AskMap, AskList}
 use Rattle.model.specs.Says.{node_of, refusal_of, sheet_says, yes_no_says, reach_says, realized_says, map_says, list_says}
 use Rattle.theory.specs.Upto.{length-upto}
-use Rattle.theory.specs.Sizes.{LowRefusal, verdict_low, LowAnswer, low_refusal, low_answer, LowCounts, sheet_low, Any, within_low, derivable_low, reach_low, LowOpenness, low_open, realized_low, LowMapping, low_rule, map_low, list_low}
+use Rattle.theory.proofs.Sizes.{LowRefusal, verdict_low, LowAnswer, low_refusal, low_answer, LowCounts, sheet_low, Any, within_low, derivable_low, reach_low, LowOpenness, low_open, realized_low, LowMapping, low_rule, map_low, list_low}
 use Rattle.tables.specs.Tables.{byte, row_at, rows_of, skeleton_in, sheet_in}
 use Rattle.accept.specs.declared.Accepted.{Accepted}
 use Rattle.accept.specs.Held.{AcceptedAs, Held}

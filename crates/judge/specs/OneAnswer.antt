@@ -4,9 +4,9 @@ use Rattle.model.specs.Skeleton.{Node}
 use Rattle.model.specs.Sheet.{Verdict}
 use Rattle.model.specs.Answers.{Answer, Gives, AskSheet, AskWithin, AskDerivable, AskReach, AskRealized, AskMap, AskList}
 use Rattle.model.specs.Says.{sheet_says, yes_no_says, reach_says, realized_says, map_says, list_says}
-use Rattle.model.specs.SaysLaws.{sheet_says_one, yes_no_says_one, reach_says_one, realized_says_one, map_says_one, list_says_one}
+use Rattle.model.proofs.SaysLaws.{sheet_says_one, yes_no_says_one, reach_says_one, realized_says_one, map_says_one, list_says_one}
 use Rattle.theory.specs.NoSecond.{Same}
-use Rattle.theory.specs.Pinned.{ExactlyOne, pinned}
+use Rattle.theory.proofs.Pinned.{ExactlyOne, pinned}
 
 -- R is the type of the code's answer, and `says` what it says
 abbrev OneAnswer : List ℕ → {A R : Type 0} → (Verdict → Answer A → List ℕ → Type 0) → (R → Answer A) → Type 0

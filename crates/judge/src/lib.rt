@@ -1,4 +1,6 @@
 // The questions: each takes any bytes as a sheet, and gives an answer or one numbered refusal.
+#![tactic(auto)]
+
 ghost use Rattle.std.specs.Prelude.{◌≡◌, [], ◌≤◌};
 ghost use Rattle.model.specs.Answers.{Gives, AskSheet, AskWithin, AskDerivable, AskReach, AskRealized, AskMap, AskList};
 ghost use Rattle.model.specs.Says.{node_of, sheet_says, yes_no_says, reach_says, realized_says, map_says, list_says};

@@ -79,10 +79,13 @@ unfolding is_key kind
 key_no_inverse {r} k e = true≢false (back k ∙ ap is_key e)
 
 module _ (rows : List Row) (n : ℕ) where
+  lacks_at : {i x : ℕ} → i < length rows → length rows ≡ n → is_key (row rows i) ≡ true → Partner rows n i x → x ≡ i → Lacking rows i
+  lacks_at h e k (of_inverse l q) s = absurd (key_no_inverse k q)
+  lacks_at h e k (of_key l q) s = absurd (key_no_inverse k (rw s at q))
+  lacks_at h e k (of_other f g) s = record { a_term = h; a_key = k; no_inverse = λ j l. g j (omega arith) }
+
   lacks : {i : ℕ} → i < length rows → length rows ≡ n → is_key (row rows i) ≡ true → Partner rows n i i → Lacking rows i
-  lacks h e k (of_inverse l q) = absurd (key_no_inverse k q)
-  lacks h e k (of_key l q) = absurd (key_no_inverse k q)
-  lacks h e k (of_other f g) = record { a_term = h; a_key = k; no_inverse = λ j l. g j (omega arith) }
+  lacks h e k p = lacks_at h e k p refl
 
   lacking_own : {i x : ℕ} → length rows ≡ n → Lacking rows i → Partner rows n i x → x ≡ i
   lacking_own e k (of_inverse l q) = absurd (key_no_inverse k.a_key q)

@@ -26,6 +26,7 @@ earlier_args i (Ltk a b) e h = record { left = e.0; right = e.1 }
 earlier_args i (Pair a b) e h = record { left = e.0; right = e.1 }
 earlier_args i (Enc a b) e h = record { left = e.0; right = e.1 }
 earlier_args i (Hash a) e h = record { left = e; right = omega arith }
+earlier_args i _ e h = elim h [ ]
 
 pub earlier_bytes : (t : List ℕ) (i : ℕ) → Filled t → i < byte t term_count → Earlier i (row (rows_in t) i) → T (leb 7 (byte t i))
     → EarlierBytes t i

@@ -1,4 +1,6 @@
 // Refusal 9, and the number of each term's inverse.
+#![tactic(auto)]
+
 ghost use Rattle.std.specs.Prelude.{◌≡◌, true, ◌↔◌, ◌+◌, ◌<◌, ◌≤◌, length};
 ghost use Rattle.model.specs.Accepting.{Lacking};
 ghost use Rattle.theory.specs.Standing.{Fair};
@@ -11,7 +13,7 @@ use tables::rows::{ASYMMETRIC, INVERSE, PUBLIC};
 use tables::{FIRSTS, TERM_COUNT};
 use terms::Term;
 
-#[derive(Drop)]
+#[derive(Clone, Copy)]
 pub enum Keys {
     Paired,
     // The lowest key without its inverse.

@@ -9,7 +9,7 @@ use lib.Dec.{ltb}
 use lib.ListN.{length, length-append}
 use borrow.Author.Tests.{lt-ltb, le-ltb, ltb-true, ltb-false}
 use Rattle.model.specs.Lines.{decimal}
-use Rattle.model.specs.LinesLaws.{decimal_law}
+use Rattle.model.proofs.LinesLaws.{decimal_law}
 
 -- a number below ten is a digit; any other is a number and a digit
 pub one_digit : (n : ℕ) → n < 10 → decimal n ≡ (48 + n) ∷ []

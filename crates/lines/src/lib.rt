@@ -1,4 +1,6 @@
 // The lines of the bench program, each written into a lent buffer from a place on.
+#![tactic(auto)]
+
 ghost use Rattle.std.specs.Prelude.{[], ◌∷◌, ◌+◌, ◌*◌, ◌≤◌, ◌<◌, length};
 ghost use Rattle.model.specs.Lines.{decimal, sheet_line, maps_line, map_line};
 ghost use Rattle.model.specs.Says.{sheet_says, realized_says, list_says};

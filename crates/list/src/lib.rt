@@ -1,6 +1,8 @@
 // All maps from one skeleton into another, in dictionary order. A candidate gives each of the n source strands one of `base` target
 // strands; candidate number c has the digits of c to that base. Which candidates are maps is kept in lent words: bit c % 64 of word
 // c / 64 says whether candidate c is one.
+#![tactic(auto)]
+
 ghost use Rattle.std.specs.Prelude.{◌≡◌, ◌||◌, false, ◌++◌, ℕ, ◌+◌, ◌*◌, ◌^◌, ◌≤◌, ◌<◌, eqb, length, take, drop};
 ghost use Rattle.model.specs.Answers.{over, end_to_end};
 ghost use Rattle.list.specs.Candidates.{digits, passing};

@@ -1,5 +1,7 @@
 // The list question about a sheet that lies accepted in lent tables. Every candidate is judged once; which ones are maps is kept a bit
 // each, and the list is written at the end.
+#![tactic(auto)]
+
 ghost use Rattle.std.specs.Prelude.{◌≡◌, true, false, ◌↔◌, ℕ, ◌+◌, ◌^◌, ◌<◌, ◌≤◌, length};
 ghost use Rattle.model.specs.Sheet.{Verdict};
 ghost use Rattle.model.specs.Answers.{AskList, refusal};

@@ -5,7 +5,7 @@ use Prim.Native.Nat.{ℕ}
 use Rattle.model.specs.Sheet.{Sheet, Verdict}
 use Rattle.model.specs.Judging.{HasVerdict, judged}
 use Rattle.theory.specs.Places.{in_list}
-use Rattle.theory.specs.Verdicts.{accepting_same}
+use Rattle.theory.proofs.Verdicts.{accepting_same}
 use Rattle.theory.specs.Encoding.{WithinLimits, read_encoded}
 use Rattle.tables.specs.Tables.{sheet_in}
 use Rattle.accept.proofs.Lies.{has_skeleton}

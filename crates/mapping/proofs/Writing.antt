@@ -17,7 +17,7 @@ use Rattle.model.specs.Maps.{Images}
 use Rattle.model.specs.Answers.{over}
 use Rattle.theory.specs.Tests.{bool_false}
 use Rattle.theory.specs.Upto.{length-upto, upto_at}
-use Rattle.theory.specs.Faults.{variable_test}
+use Rattle.theory.proofs.Faults.{variable_test}
 use Rattle.tables.specs.Tables.{byte}
 use Rattle.carry.specs.Sets.{IsVariables}
 use Rattle.matching.specs.Matches.{Matches, Takes}

@@ -1,4 +1,6 @@
 // The map question about a sheet that lies accepted in lent tables, and the judgement of one strand map, for a lister too.
+#![tactic(auto)]
+
 ghost use Rattle.std.specs.Prelude.{◌≡◌, true, ◌↔◌, ◌+◌, ◌<◌, ◌≤◌, length};
 ghost use Rattle.terms.specs.Set.{IsSetOf};
 ghost use Rattle.model.specs.Sheet.{Verdict};
@@ -30,7 +32,7 @@ use terms::{Term, TermSet};
 const NONE: u8 = 255;
 
 // The NO atoms and the UO atoms of a skeleton.
-#[derive(Drop)]
+#[derive(Clone, Copy)]
 pub struct Atoms {
     pub nons: TermSet,
     pub uniqs: TermSet,

@@ -17,8 +17,8 @@ use Rattle.model.specs.Reading.{an_atom}
 use Rattle.tables.proofs.Look.{count_is, row_in, kind_is}
 use Rattle.theory.specs.Tests.{both, pair_up, both_true}
 use Rattle.theory.specs.Parts.{occurs_after}
-use Rattle.model.specs.Laws.{inv-inv}
-use Rattle.model.specs.Laws.{inv_apply}
+use Rattle.model.proofs.Laws.{inv-inv}
+use Rattle.model.proofs.Laws.{inv_apply}
 use Rattle.theory.specs.GoodTable.{IsName, IsKey, an_akey, a_pubk, Earlier, Sorted}
 use Rattle.theory.specs.Numbers.{row_of, term_law, law, number, number_term, name_shown, key_shown}
 use Rattle.theory.specs.Numbers as Numbers
@@ -68,6 +68,7 @@ variable_row f (Akey n) h p q s = Variable.an_akey
 variable_row f (Pubk a) h p q s = absurd (p refl)
 variable_row f (Inv a) h p q s = absurd (q refl)
 variable_row f (Ltk a b) h p q s = absurd (s refl)
+variable_row f _ h p q s = elim h [ ]
 
 no_inverse : {r : Row} → IsKey r → kind r ≢ 8
 unfolding kind

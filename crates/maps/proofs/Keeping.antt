@@ -48,6 +48,8 @@ event_same : (f : ℕ → Term) (c d m n : ℕ) → SameDirection (on_message f 
 unfolding event on_message
 event_same f zero zero m n s = refl
 event_same f (suc c) (suc d) m n s = ne_eqb (suc c) 0 (λ e. omega arith) ∙ sym (ne_eqb (suc d) 0 (λ e. omega arith))
+event_same f zero (suc d) m n s = elim s [ ]
+event_same f (suc c) zero m n s = elim s [ ]
 
 -- A strand that goes to one that is high enough
 pub strand_told : {t : List ℕ} {a b s u h : ℕ} {r : Bool} → h ≡ byte t (a + heights + s) → h ≤ byte t (b + heights + u)

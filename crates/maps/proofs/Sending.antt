@@ -26,7 +26,7 @@ use Rattle.theory.specs.Numbers.{term_injective}
 use Rattle.theory.specs.OnSheet.{OnSheet}
 use Rattle.theory.specs.Happenings.{at_meant}
 use Rattle.theory.specs.Precedence as Precedence
-use Rattle.theory.specs.Faults.{occurs_test}
+use Rattle.theory.proofs.Faults.{occurs_test}
 use Rattle.theory.specs.MapLaws.{VariablesOccur, AtomsOccur, skeleton_atoms}
 use Rattle.tables.specs.Layout.{term_count}
 use Rattle.tables.specs.Tables.{byte, rows_in}

@@ -1,5 +1,7 @@
 // The tests of map rules 1, 2, 4, 5 and 6, for the skeletons of two blocks of a table. Rules 5 and 6 go by the images that the
 // judgement of rule 3 leaves: a byte for each term, the number of its image if the term occurs in a source event, else 255.
+#![tactic(auto)]
+
 ghost use Rattle.std.specs.Prelude.{◌≡◌, true, ◌↔◌, ◌≢◌, ◌+◌, ◌*◌, ◌/◌, ◌%◌, ◌<◌, ◌≤◌, eqb, length, get_or};
 ghost use Rattle.model.specs.Says.{node_of};
 ghost use Rattle.tables.specs.Layout.{term_count, strand_count};
@@ -20,7 +22,7 @@ use tables::{
 use terms::{Node, Strand, Term, TermSet};
 
 // Whether a term is on the sheet, and its number.
-#[derive(Drop)]
+#[derive(Clone, Copy)]
 pub enum Image {
     On(Term),
     Off,

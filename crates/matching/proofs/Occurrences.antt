@@ -8,10 +8,11 @@ use Rattle.model.specs.Carry.{Occurs}
 use Rattle.model.specs.Table.{Row, Tag, Mesg, Text, Datum, Name, Skey, Akey, Pubk, Inv, Ltk, Pair, Enc, Hash, row, term}
 use Rattle.theory.specs.Each.{Each, each_nil, each_cons}
 use Rattle.theory.specs.GoodTable.{Good}
-use Rattle.theory.specs.Rules.{Rule, ◌⊢◌, Reached, by, reach_iff, InRange}
+use Rattle.theory.specs.Rules.{Rule, ◌⊢◌, Reached, by, InRange}
+use Rattle.theory.proofs.Rules.{reach_iff}
 use Rattle.theory.specs.RowRules.{of_row, each_row}
-use Rattle.theory.specs.Occurring.{to_each, part_rules, occur_rules, occurs_iff}
-use Rattle.theory.specs.Occurring as occurring
+use Rattle.theory.proofs.Occurring.{to_each, part_rules, occur_rules, occurs_iff}
+use Rattle.theory.proofs.Occurring as occurring
 use Rattle.theory.specs.Matching.{parts}
 
 -- the terms that are wished for are the arguments
@@ -40,6 +41,7 @@ in_rules : (i a : ℕ) (l : List ℕ) → Memᴰ a l → Memᴰ (◌⊢◌ (a �
 unfolding to_each
 in_rules i a (b ∷ l) (mathlib.Core.List.Memᴰ.head e) = mathlib.Core.List.Memᴰ.head (ap (λ c. ◌⊢◌ (c ∷ []) i) e)
 in_rules i a (b ∷ l) (mathlib.Core.List.Memᴰ.tail m) = mathlib.Core.List.Memᴰ.tail (in_rules i a l m)
+in_rules i a [] x' = elim x' [ ]
 
 module _ (rows : List Row) (good : Good rows) where
   module _ (i : ℕ) (h : i < length rows) where

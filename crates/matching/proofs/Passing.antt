@@ -21,6 +21,7 @@ use Rattle.matching.proofs.Shapes.{parts_inside}
 
 T_true : (b : Bool) → T b → b ≡ true
 T_true true h = refl
+T_true false h = elim h [ ]
 
 module _ (rows : List Row) (good : Good rows) (few : length rows ≤ 200) where
   -- what a visit did

@@ -24,12 +24,14 @@ first_earlier i (Ltk a c) h b = b.0
 first_earlier i (Pair a c) h b = b.0
 first_earlier i (Enc a c) h b = b.0
 first_earlier i (Hash a) h b = b
+first_earlier i _ h b = elim h [ ]
 
 second_earlier : (i : ℕ) (r : Row) → T (leb 9 (kind r) && leb (kind r) 11) → Earlier i r → second r < i
 unfolding kind second Earlier
 second_earlier i (Ltk a c) h b = b.1
 second_earlier i (Pair a c) h b = b.1
 second_earlier i (Enc a c) h b = b.1
+second_earlier i _ h b = elim h [ ]
 
 module _ {t : List ℕ} (filled : Filled t) (good : Good (rows_in t)) (i : ℕ) (h : i < byte t term_count) where
   abbrev there : Earlier i (row (rows_in t) i)
@@ -62,6 +64,7 @@ module _ (rows : List Row) (t : ℕ) where
   leaf_parts (Name a) h = refl
   leaf_parts (Skey a) h = refl
   leaf_parts (Akey a) h = refl
+  leaf_parts _ h = elim h [ ]
 
   more_parts : (r : Row) → T (leb 7 (kind r)) → parts rows r t ≡ (first r, first_goes r) ∷ second_goes r
   unfolding kind parts first second
@@ -71,6 +74,7 @@ module _ (rows : List Row) (t : ℕ) where
   more_parts (Pair a b) h = refl
   more_parts (Enc a b) h = refl
   more_parts (Hash a) h = refl
+  more_parts _ h = elim h [ ]
 
   pub parts_none : (p : ℕ) → leb (kind (row rows p)) 6 ≡ true → parts rows (row rows p) t ≡ []
   parts_none p e = leaf_parts (row rows p) (rw e tt)

@@ -12,7 +12,7 @@ use Rattle.model.specs.Term.{Sym, skey, ltk, Asym, akey, pubk, symmetric, asymme
 use Rattle.model.specs.Table.{Row, Tag, Mesg, Text, Datum, Name, Skey, Akey, Pubk, Inv, Ltk, Pair, Enc, Hash}
 use Rattle.model.specs.Table.{row, kind, first, second, meaning, term}
 use Rattle.theory.specs.Each.{Each, each_nil, each_cons}
-use Rattle.model.specs.Laws.{inv-inv}
+use Rattle.model.proofs.Laws.{inv-inv}
 use Rattle.theory.specs.GoodTable.{Good, Earlier, Sorted, IsKey, an_akey, a_pubk}
 use Rattle.theory.specs.Numbers.{row_of, term_law, law, number, term_injective, row_is, key_shown}
 use Rattle.theory.specs.Reach.{inverse_at, inverse_law}
@@ -25,38 +25,47 @@ use Rattle.matching.specs.Pass.{may_be, heads}
 is_text : (r : Row) → T (eqb (kind r) 2) → (n : ℕ) × (r ≡ Text n)
 unfolding kind
 is_text (Text n) h = (n, refl)
+is_text _ h = elim h [ ]
 
 is_datum : (r : Row) → T (eqb (kind r) 3) → (n : ℕ) × (r ≡ Datum n)
 unfolding kind
 is_datum (Datum n) h = (n, refl)
+is_datum _ h = elim h [ ]
 
 is_name : (r : Row) → T (eqb (kind r) 4) → (n : ℕ) × (r ≡ Name n)
 unfolding kind
 is_name (Name n) h = (n, refl)
+is_name _ h = elim h [ ]
 
 is_skey : (r : Row) → T (eqb (kind r) 5) → (n : ℕ) × (r ≡ Skey n)
 unfolding kind
 is_skey (Skey n) h = (n, refl)
+is_skey _ h = elim h [ ]
 
 is_pubk : (r : Row) → T (eqb (kind r) 7) → (a : ℕ) × (r ≡ Pubk a)
 unfolding kind
 is_pubk (Pubk a) h = (a, refl)
+is_pubk _ h = elim h [ ]
 
 is_ltk : (r : Row) → T (eqb (kind r) 9) → (a : ℕ) × (b : ℕ) × (r ≡ Ltk a b)
 unfolding kind
 is_ltk (Ltk a b) h = (a, b, refl)
+is_ltk _ h = elim h [ ]
 
 is_pair : (r : Row) → T (eqb (kind r) 10) → (a : ℕ) × (b : ℕ) × (r ≡ Pair a b)
 unfolding kind
 is_pair (Pair a b) h = (a, b, refl)
+is_pair _ h = elim h [ ]
 
 is_enc : (r : Row) → T (eqb (kind r) 11) → (a : ℕ) × (b : ℕ) × (r ≡ Enc a b)
 unfolding kind
 is_enc (Enc a b) h = (a, b, refl)
+is_enc _ h = elim h [ ]
 
 is_hash : (r : Row) → T (eqb (kind r) 12) → (a : ℕ) × (r ≡ Hash a)
 unfolding kind
 is_hash (Hash a) h = (a, refl)
+is_hash _ h = elim h [ ]
 
 -- The kind of a key's row
 
@@ -84,11 +93,13 @@ module _ (rows : List Row) (good : Good rows) where
         let b : a < u = rw e at (good.earlier u k) in
         let (c, q) = key_shown (term rows) s (term_law rows good a (omega arith)) in
         (true, c, law rows good u k e ∙ ap inv q)
+    asym_row _ e h = elim h [ ]
 
     sym_row : (r : Row) → row rows u ≡ r → T (may_be 5 (kind r)) → (c : Sym) × (term rows u ≡ atom (symmetric c))
     unfolding may_be kind meaning
     sym_row (Skey n) e h = (skey n, law rows good u k e)
     sym_row (Ltk a b) e h = (_, law rows good u k e)
+    sym_row _ e h = elim h [ ]
 
     row_from : {w : Term} → term rows u ≡ w → row rows u ≡ row_of (number rows) w
     row_from e = row_is rows good u k ∙ ap (row_of (number rows)) e
@@ -168,6 +179,7 @@ module _ (rows : List Row) (good : Good rows) where
       unfolding Fits meaning
       key_goes a c l (Akey n) an_akey f = f
       key_goes a c l (Pubk b) a_pubk (d, i, q) = (false, _, law rows good c l q)
+      key_goes a c l _ x f = elim x [ ]
 
       pub heads_there : (r : Row) → row rows p ≡ r → Earlier p r → Sorted (row rows) r → Fits rows img r u → Fit r
       unfolding heads may_be kind Fits Earlier Sorted row_of meaning inv flip

@@ -1,4 +1,6 @@
 // Map rule 3: the demands of the source's messages, then one pass over the terms from the last down to the first.
+#![tactic(auto)]
+
 ghost use Rattle.std.specs.Prelude.{◌≡◌, ◌+◌, ◌*◌, ◌<◌, ◌≤◌, length, get_or};
 ghost use Rattle.theory.specs.GoodTable.{Good};
 ghost use Rattle.tables.specs.Layout.{strand_count, heights, messages};

@@ -24,20 +24,3 @@ pub mod Answers
 pub mod Says
 pub mod Lines
 pub mod Report
--- Laws that hold the definitions in their place.
-pub mod Samples
-pub mod Laws
-pub mod MessageLaws
-pub mod TableLaws
-pub mod RecordLaws
-pub mod ReadingLaws
-pub mod EventLaws
-pub mod RefusalLaws
-pub mod DeriveLaws
-pub mod SkeletonLaws
-pub mod StrandMapLaws
-pub mod RepeatLaws
-pub mod QuestionLaws
-pub mod SaysLaws
-pub mod LinesLaws
-pub mod ReportLaws

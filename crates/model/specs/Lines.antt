@@ -4,7 +4,6 @@
 use Rattle.std.specs.Prelude.{cond, List, [], ◌∷◌, ◌++◌, ℕ, zero, suc, ◌+◌, ◌/◌, ◌%◌, ltb}
 use Prim.Native.Char.{code}
 use Prim.Native.String.{String}
-use Prim.Native.String as String
 use Rattle.model.specs.Answers.{Answer, refused, answered, Counts, Openness, realized, open_at}
 
 -- the bytes of an ASCII text

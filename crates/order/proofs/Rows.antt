@@ -65,7 +65,11 @@ module _ (m : List ℕ) (long : length m ≡ 192) where
       let fits : 2 * a < length m = omega arith in
       rw (add-zero (2 * a), add-zero (2 * k), get_or-set_other, get_or-set_same)
   row_word a k (suc zero) ha hh =
-      rw (get_or-set_same, lt-length-set m (2 * a) (bit_or (get_or m (2 * a) 0) (get_or m (2 * k) 0)) {i = 2 * a + 1} (omega arith))
+      rw (
+        get_or-set_same,
+        lt-length-set m (2 * a) (bit_or (get_or m (2 * a) 0) (get_or m (2 * k) 0))
+            {i = 2 * a + 1} (omega arith),
+      )
   row_word a k (suc (suc h)) ha hh = absurd (omega arith)
 
   pub on_row : (a k b : ℕ) → a < 96 → b < 96 → on (with_row m a k) a b ≡ (on m a b || on m k b)

@@ -1,6 +1,8 @@
 // Precedence on the nodes of a skeleton: the transitive closure of strand succession and the OR pairs, as a matrix of bits in
 // lent words. Node 16 * s + p is position p of strand s. The matrix has a row of two words for each node, and bit b of row a says
 // whether a is before b.
+#![tactic(auto)]
+
 ghost use Rattle.std.specs.Prelude.{◌≡◌, true, ◌↔◌, ◌+◌, ◌*◌, ◌<◌, ◌≤◌, length};
 ghost use Rattle.model.specs.Says.{node_of};
 ghost use Rattle.tables.specs.Layout.{strand_count, block_size, table_size};

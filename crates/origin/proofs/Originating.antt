@@ -1,13 +1,10 @@
 -- Origins, strand by strand: at most one on each, and where the next one is. Assumes nothing.
-use mathlib.Core.Path.{◌≡◌, sym, ◌∙◌}
+use mathlib.Core.Path.{refl, ◌≡◌, sym, ◌∙◌}
 use mathlib.Core.Bool.{Bool, true, true≢false}
-use mathlib.Core.List.{List, [], ◌∷◌}
-use mathlib.Core.Logic.{⊎_elim}
+use mathlib.Core.List.{List}
 use Prim.Native.Nat.{ℕ, ◌+◌, ◌≤◌, ◌<◌}
 use native.Mathlib.Omega.{arith}
 use native.Mathlib.Decide.{ℕ_discrete, dec_lt}
-use types.Run.{OneOf}
-use denote.Enum.Declared.{tag_of}
 use Rattle.terms.specs.declared.Node as Code
 use Rattle.model.specs.Skeleton.{Event, message, Node, Skeleton, At}
 use Rattle.theory.specs.Skeletons.{at_one}
@@ -15,7 +12,6 @@ use Rattle.model.specs.Says.{node_of}
 use Rattle.tables.specs.Layout.{strand_count}
 use Rattle.tables.specs.Tables.{byte, skeleton_at, Block}
 use Rattle.origin.specs.declared.Appears.{Appears}
-use Rattle.origin.specs.contracts.Appears.{the_type}
 use Rattle.origin.specs.declared.Origins.{Origins}
 use Rattle.origin.specs.declared.Next.{Next}
 use Rattle.origin.specs.Marked.{node, NoneBefore, FirstSent, FirstReceived, AppearsAs, sent, received, OriginatesAs}
@@ -53,11 +49,11 @@ module _ {K : Skeleton ℕ} {marks : ℕ → Bool} where
       let z : ◌≡◌ {A = ℕ} 0 1 = cc in omega arith
 
   -- an answer that is not `Sent` says that the strand has no origin
-  pub not_sent : {s : ℕ} (r : Appears) → OneOf (0 ∷ 2 ∷ []) (tag_of the_type r) → AppearsAs K marks s r
+  pub not_sent : {s : ℕ} (r : Appears) → ((p : ℕ) → r ≡ Appears.Sent p → ⊥) → AppearsAs K marks s r
       → (q : ℕ) → ¬ FirstSent K marks (node s q)
   unfolding message
   not_sent r k (AppearsAs.nowhere f) q g = true≢false (sym g.marked ∙ f q _ g.at)
-  not_sent r k (sent f) q g = ⊎_elim (λ e. omega arith) (λ e. omega arith) k
+  not_sent r k (sent f) q g = k _ refl
   not_sent r k (received f) q g = not_both _ _ q f g
 
   pub sent_first : {s p : ℕ} → AppearsAs K marks s (Appears.Sent p) → FirstSent K marks (node s p)

@@ -1,4 +1,6 @@
 // How a term first appears on a strand, and where it originates: of the events whose messages are in a set of terms.
+#![tactic(auto)]
+
 ghost use Rattle.std.specs.Prelude.{◌≡◌, ℕ, ◌+◌, ◌<◌, ◌≤◌, eqb};
 ghost use Rattle.terms.specs.Set.{mem};
 ghost use Rattle.model.specs.Says.{node_of};
@@ -14,7 +16,7 @@ use tables::{DIRECTIONS, HEIGHTS, MESSAGES, ROOM, STRAND_COUNT, wide};
 use terms::{Node, Strand, Term, TermSet};
 
 // How a strand first has a marked message.
-#[derive(Drop)]
+#[derive(Clone, Copy)]
 pub enum Appears {
     Nowhere,
     Sent(u8),
@@ -22,7 +24,7 @@ pub enum Appears {
 }
 
 // On how many strands a marked message comes first in a send.
-#[derive(Drop)]
+#[derive(Clone, Copy)]
 pub enum Origins {
     Nowhere,
     At(Node),
@@ -30,7 +32,7 @@ pub enum Origins {
 }
 
 // What stands at a node.
-#[derive(Drop)]
+#[derive(Clone, Copy)]
 pub enum At {
     Nothing,
     Send(Term),
@@ -38,7 +40,7 @@ pub enum At {
 }
 
 // The next origin, if there is one more.
-#[derive(Drop)]
+#[derive(Clone, Copy)]
 enum Next {
     Nowhere,
     Here(Node),

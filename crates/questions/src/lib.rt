@@ -1,4 +1,6 @@
 // Questions about a sheet that lies accepted in lent tables. Each tests first whether the sheet has what is asked for.
+#![tactic(auto)]
+
 ghost use Rattle.std.specs.Prelude.{◌≡◌, true, [], ◌↔◌, ◌<◌, length};
 ghost use Rattle.model.specs.Sheet.{Verdict, HasSkeleton};
 ghost use Rattle.model.specs.Answers.{answered, refusal, HasTerms, HasReception, HasReceptionAndTerm};

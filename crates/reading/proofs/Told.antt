@@ -10,7 +10,6 @@ use lib.ListN.{length, get_or}
 use lib.Dec.{ltb, leb, eqb}
 use Rattle.model.specs.Lists.{upto, every}
 use Rattle.model.specs.Limits.{most_nons, most_uniqs}
-use Rattle.model.specs.Table.{Row}
 use Rattle.model.specs.Reading.{State, in_work, on_sheet, Mark, BS, TM, SK, ST, OR, NO, UO, EN, mark_bytes, may_follow, Record, edition, term, begin, strand, order, non, uniq, end, Said, refuse, says, check, need, read_BS, read_row, read_TM, read_SK, event_right, event_in, read_ST, event_at, sends, receives, read_OR, an_atom, read_atom, read_as, marked_as, read_record}
 use Rattle.theory.specs.Tests.{both_true}
 use Rattle.theory.specs.Upto.{length-upto}

@@ -1,4 +1,6 @@
 // The sheet as it is read, record by record, up to EN or to the first faulty record.
+#![tactic(auto)]
+
 ghost use Rattle.std.specs.Prelude.{◌≡◌, length};
 ghost use Rattle.tables.specs.Layout.{table_size};
 ghost use Rattle.reading.specs.Answers.{number_of, ReadInto};
@@ -13,7 +15,7 @@ use records::readers::{Answer, size_of};
 use tables::blocks::clear;
 
 // The answer to a whole sheet: it is read, or it is faulty.
-#[derive(Drop)]
+#[derive(Clone, Copy)]
 pub enum Reading {
     Read,
     Faulty { number: u8, place: usize },

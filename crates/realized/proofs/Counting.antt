@@ -40,6 +40,7 @@ module _ (p : ℕ → Bool) where
 
 holds : (b : Bool) → T b → b ≡ true
 holds true h = refl
+holds false h = elim h [ ]
 
 module _ (k : ℕ) {n : Node} {D : Drawing} {s : TermSet} {size : ℕ} where
   -- the reach is the size of the set of what is reached

@@ -17,7 +17,7 @@ use Rattle.model.specs.Sheet.{meant}
 use Rattle.model.specs.Answers.{Sooner}
 use Rattle.model.specs.Says.{node_of}
 use Rattle.theory.specs.Happenings.{at_means, at_meant}
-use Rattle.theory.specs.Answering.{only_reception, no_reception}
+use Rattle.theory.proofs.Answering.{only_reception, no_reception}
 use Rattle.tables.specs.Layout.{strand_count, heights}
 use Rattle.tables.specs.Tables.{byte, rows_in, skeleton_at}
 use Rattle.origin.specs.Marked.{node}

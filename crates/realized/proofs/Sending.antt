@@ -1,14 +1,13 @@
 -- What is sent before a node, node by node. Assumes nothing.
-use mathlib.Core.Path.{◌≡◌, sym, ◌∙◌}
+use mathlib.Core.Path.{◌≡◌, refl, sym, ◌∙◌}
 use mathlib.Core.Bool.{true, false, true≢false, ◌||◌}
-use mathlib.Core.List.{List, [], ◌∷◌}
+use mathlib.Core.List.{List}
 use mathlib.Core.Logic.{inl, inr, ⊎_elim, ⊎_map}
 use Prim.Native.Nat.{ℕ, ◌+◌, ◌*◌, ◌≤◌, ◌<◌}
 use native.Mathlib.Omega.{arith}
 use native.Mathlib.Decide.{dec_lt}
-use types.Run.{OneOf}
-use denote.Enum.Declared.{tag_of}
 use lib.Dec.{eqb}
+use Rattle.terms.specs.declared.Term.{Term}
 use Rattle.terms.specs.declared.TermSet.{TermSet}
 use Rattle.terms.specs.Set.{mem}
 use Rattle.model.specs.Skeleton.{send, Node, Skeleton, At}
@@ -19,7 +18,6 @@ use Rattle.order.specs.Precedence.{code}
 use Rattle.origin.specs.declared.At as Answer
 use Rattle.origin.specs.Marked.{node}
 use Rattle.origin.specs.Nodes.{EventIs, nothing, sends, receives}
-use Rattle.origin.specs.contracts.At.{the_type}
 use Rattle.tables.proofs.Nodes.{at_stands, position_low}
 use Rattle.realized.specs.Before.{IsSent}
 use Rattle.realized.specs.Passing.{Sends, Takes, Gathered}
@@ -32,10 +30,10 @@ module _ {K : Skeleton ℕ} {n : Node} where
   is_sent (sends a) = a
 
   -- an answer that is not `Send` says that none is there
-  pub not_sent : (r : Answer.At) → OneOf (0 ∷ 2 ∷ []) (tag_of the_type r) → EventIs K n r → (m : ℕ) → ¬ At K n (send m)
+  pub not_sent : (r : Answer.At) → ((t : Term) → r ≡ Answer.At.Send t → ⊥) → EventIs K n r → (m : ℕ) → ¬ At K n (send m)
   not_sent r k (nothing none) m a = none (send m) a
   not_sent r k (receives s) m a = let e = at_one K s a in let z : ◌≡◌ {A = ℕ} 0 1 = cc in omega arith
-  not_sent r k (sends s) m a = ⊎_elim (λ e. omega arith) (λ e. omega arith) k
+  not_sent r k (sends s) m a = k _ refl
 
 -- A node more
 

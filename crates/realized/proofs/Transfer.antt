@@ -13,7 +13,7 @@ use Rattle.model.specs.Skeleton.{send, message, on_message, Node, Skeleton, At, 
 use Rattle.model.specs.Events.{Origin}
 use Rattle.model.specs.Derive.{SentBefore, Originating, Withheld, DerivableBefore}
 use Rattle.model.specs.Sheet.{meant}
-use Rattle.model.specs.SkeletonLaws.{derivable_mono}
+use Rattle.model.proofs.SkeletonLaws.{derivable_mono}
 use Rattle.theory.specs.Happenings.{at_means, at_meant, before_means, before_meant}
 use Rattle.theory.specs.OnTable.{OnTable}
 use Rattle.theory.specs.Happenings.{send_means}

@@ -1,4 +1,6 @@
 // What the stranger reaches before a reception, and the first reception that is open.
+#![tactic(auto)]
+
 ghost use Rattle.std.specs.Prelude.{◌≡◌, ℕ, ◌+◌, ◌<◌, ◌≤◌, length};
 ghost use Rattle.model.specs.Sheet.{meant};
 ghost use Rattle.model.specs.Answers.{ReachIs};
@@ -19,14 +21,14 @@ use tables::{HEIGHTS, NON_COUNT, NONS, STRAND_COUNT, UNIQ_COUNT, UNIQS, wide};
 use terms::{Node, Strand, Term, TermSet};
 
 // The first open reception of a skeleton.
-#[derive(Drop)]
+#[derive(Clone, Copy)]
 pub enum Open {
     Nothing,
     At(Node),
 }
 
 // The position of the first open reception of a strand.
-#[derive(Drop)]
+#[derive(Clone, Copy)]
 enum OnStrand {
     Nowhere,
     Here(u8),

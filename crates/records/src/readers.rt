@@ -18,7 +18,7 @@ use tables::{
 use terms::{Node, Strand, Term};
 
 // What a good record says. Of a strand it is the height: the events stay in the remainder.
-#[derive(Drop)]
+#[derive(Clone, Copy)]
 pub enum Record {
     Edition,
     Term(Row),
@@ -31,7 +31,7 @@ pub enum Record {
 }
 
 // A record's answer: what it says, or the number of its refusal.
-#[derive(Drop)]
+#[derive(Clone, Copy)]
 pub enum Answer {
     Good(Record),
     Refused(u8),

@@ -1,6 +1,6 @@
 -- Whether receptions of marked messages come after a node: of one event, of a strand's, of all. Assumes nothing.
 use mathlib.Core.Path.{◌≡◌, sym, ◌∙◌}
-use mathlib.Core.Bool.{Bool, true, false, not, true≢false}
+use mathlib.Core.Bool.{Bool, true, false, true≢false}
 use mathlib.Core.List.{List}
 use mathlib.Core.Logic.{◌⊎◌, inl, inr, ⊎_elim}
 use Prim.Native.Nat.{ℕ, ◌+◌, ◌≤◌, ◌<◌}
@@ -54,18 +54,18 @@ module _ {K : Skeleton ℕ} {marks : ℕ → Bool} {before : List ℕ} {n : Node
   arrived_none none = record { after = λ m u h a on. absurd (none m h) }
 
   pub arrived_more : {P Q R : Node → Type 0} {b : Bool} → Arrived K marks before n P → ArriveAs K marks before n Q b
-      → not b ≡ false → ((m : Node) → R m → P m ⊎ Q m) → Arrived K marks before n R
+      → b ≡ true → ((m : Node) → R m → P m ⊎ Q m) → Arrived K marks before n R
   arrived_more w (ArriveAs.all f) e cases =
       record { after = λ m u h a on. ⊎_elim (λ p. w.after m u p a on) (λ q. f m u q a on) (cases m h) }
-  arrived_more w (ArriveAs.one_early a on off) e cases = absurd (true≢false e)
+  arrived_more w (ArriveAs.one_early a on off) e cases = absurd (true≢false (sym e))
 
-  pub early : {P Q : Node → Type 0} {b : Bool} → ArriveAs K marks before n Q b → not b ≡ true → ArriveAs K marks before n P false
-  early (ArriveAs.all f) e = absurd (true≢false (sym e))
+  pub early : {P Q : Node → Type 0} {b : Bool} → ArriveAs K marks before n Q b → b ≡ false → ArriveAs K marks before n P false
+  early (ArriveAs.all f) e = absurd (true≢false e)
   early (ArriveAs.one_early a on off) e = ArriveAs.one_early a on off
 
-  pub early_of_all : {s : ℕ} {Q : Node → Type 0} {b : Bool} → ArriveAs K marks before n Q b → not b ≡ true
+  pub early_of_all : {s : ℕ} {Q : Node → Type 0} {b : Bool} → ArriveAs K marks before n Q b → b ≡ false
       → ArrivesAs K marks before n s false
-  early_of_all (ArriveAs.all f) e = absurd (true≢false (sym e))
+  early_of_all (ArriveAs.all f) e = absurd (true≢false e)
   early_of_all (ArriveAs.one_early a on off) e = ArrivesAs.one_early a on off
 
   pub all_arrived : {s : ℕ} → Arrived K marks before n (Lower s) → ArrivesAs K marks before n s true

@@ -19,11 +19,11 @@ use Rattle.theory.specs.Tests.{bool_false}
 use Rattle.theory.specs.GoodTable.{Good}
 use Rattle.theory.specs.Happenings.{at_means, at_meant}
 use Rattle.theory.specs.OnSheet.{OnSheet}
-use Rattle.theory.specs.Occurring.{occurs_on}
+use Rattle.theory.proofs.Occurring.{occurs_on}
 use Rattle.theory.specs.OnTable.{OnTable}
 use Rattle.theory.specs.Happenings.{send_means, message_means}
 use Rattle.carry.specs.Sets.{IsCarriers, IsCarried, IsParts, IsVariables, InMember}
-use Rattle.origin.specs.Marked.{FirstSent, IsMessages, node}
+use Rattle.origin.specs.Marked.{FirstSent, IsMessages}
 
 module _ (rows : List Row) (good : Good rows) (K : Skeleton ℕ) (ok : OnTable rows K) where
   abbrev L : Skeleton Term

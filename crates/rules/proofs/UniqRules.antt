@@ -1,14 +1,11 @@
 -- What origins and precedence say of a UO atom: whether it has one originating strand, and whether a reception comes too early.
 -- Assumes nothing.
-use mathlib.Core.Path.{◌≡◌, sym, ap, ◌∙◌}
-use mathlib.Core.Bool.{Bool, not, true, false, true≢false}
-use mathlib.Core.List.{List, [], ◌∷◌}
+use mathlib.Core.Path.{◌≡◌, refl, sym, ap, ◌∙◌}
+use mathlib.Core.Bool.{Bool, true, false, true≢false}
+use mathlib.Core.List.{List}
 use mathlib.Core.Logic.Iff
-use mathlib.Core.Logic.{◌↔◌, ⊎_elim}
+use mathlib.Core.Logic.{◌↔◌}
 use Prim.Native.Nat.{ℕ, ◌+◌}
-use native.Mathlib.Omega.{arith}
-use types.Run.{OneOf}
-use denote.Enum.Declared.{tag_of}
 use Rattle.terms.specs.declared.TermSet.{TermSet}
 use Rattle.terms.specs.declared.Node as Code
 use Rattle.terms.specs.Set.{mem}
@@ -25,7 +22,6 @@ use Rattle.tables.specs.Layout.{strand_count}
 use Rattle.tables.specs.Tables.{byte, rows_in, skeleton_at}
 use Rattle.carry.specs.Sets.{IsCarriers}
 use Rattle.origin.specs.declared.Origins.{Origins}
-use Rattle.origin.specs.contracts.Origins.{the_type}
 use Rattle.origin.specs.Marked.{FirstSent, OriginatesAs}
 use Rattle.tables.proofs.Nodes.{at_stands, strand_low, position_low}
 use Rattle.order.specs.Precedence.{on, code, Low, Shows}
@@ -55,11 +51,11 @@ module _ {t : List ℕ} {b : ℕ} (ready : Drawn t b) where
     same = origin_iff (rows_in t) ready.good (skeleton_at t b) ready.on_table a C carriers
 
     -- an answer that is not `At` says that there is not one strand
-    pub not_one_strand : (r : Origins) → OneOf (0 ∷ 2 ∷ []) (tag_of the_type r) → OriginatesAs (skeleton_at t b) (mem C) r
+    pub not_one_strand : (r : Origins) → ((n : Code.Node) → r ≡ Origins.At n → ⊥) → OriginatesAs (skeleton_at t b) (mem C) r
         → UniqAs (drawing t b) a 12
     unfolding meant
     not_one_strand r k (OriginatesAs.nowhere none) = UniqAs.not_one (λ o. none _ ((same _).1 o.originates.origin))
-    not_one_strand r k (OriginatesAs.at f only) = ⊎_elim (λ e. absurd (omega arith)) (λ e. absurd (omega arith)) k
+    not_one_strand r k (OriginatesAs.at f only) = absurd (k _ refl)
     not_one_strand r k (OriginatesAs.several {m} {n} f g apart) =
         UniqAs.not_one (λ o. apart
         (o.only m.strand (record { position = m.position; origin = (same m).0 f })
@@ -85,10 +81,10 @@ module _ {t : List ℕ} {b : ℕ} (ready : Drawn t b) where
             Iff.trans (shows.at (node_of n) m (low_origin o) l)
             (before_means (term (rows_in t)) (skeleton_at t b), before_meant (term (rows_in t)) (skeleton_at t b))
 
-        pub too_early : {s : ℕ} {r : Bool} → ArrivesAs (skeleton_at t b) (mem C) g (node_of n) s r → not r ≡ true
+        pub too_early : {s : ℕ} {r : Bool} → ArrivesAs (skeleton_at t b) (mem C) g (node_of n) s r → r ≡ false
             → UniqAs (drawing t b) a 13
         unfolding meant on_message
-        too_early (ArrivesAs.all f) e = absurd (true≢false (sym e))
+        too_early (ArrivesAs.all f) e = absurd (true≢false e)
         too_early (ArrivesAs.one_early {m} {u} d marked off) e =
             UniqAs.early (one_strand o) (record {
               source = node_of n;
@@ -100,10 +96,10 @@ module _ {t : List ℕ} {b : ℕ} (ready : Drawn t b) where
               not_after = λ p. true≢false (sym ((comes_before (low_at d)).1 p) ∙ off);
             })
 
-        in_time : {r : Bool} → ArrivesAs (skeleton_at t b) (mem C) g (node_of n) (byte t (b + strand_count)) r → not r ≡ false
+        in_time : {r : Bool} → ArrivesAs (skeleton_at t b) (mem C) g (node_of n) (byte t (b + strand_count)) r → r ≡ true
             → ¬ Early (meant_at t b) (term (rows_in t) a)
         unfolding message
-        in_time (ArrivesAs.one_early d marked off) e w = true≢false e
+        in_time (ArrivesAs.one_early d marked off) e w = true≢false (sym e)
         in_time (ArrivesAs.all f) e w =
             let (d, x, z) = at_meant (term (rows_in t)) (skeleton_at t b) w.at in
             let (u, y, v) = recv_means (term (rows_in t)) d z in
@@ -113,6 +109,6 @@ module _ {t : List ℕ} {b : ℕ} (ready : Drawn t b) where
             w.not_after (rw source ((comes_before (low_at at)).0 (f w.node u (at_stands t b at).there.strand at marked)))
 
         pub on_time : {r : Bool} → ArrivesAs (skeleton_at t b) (mem C) g (node_of n) (byte t (b + strand_count)) r
-            → not r ≡ false → UniqAs (drawing t b) a 0
+            → r ≡ true → UniqAs (drawing t b) a 0
         unfolding meant
         on_time w e = UniqAs.fine (record { one_strand = one_strand o; in_time = in_time w e })

@@ -1,4 +1,6 @@
 // Refusals 10 to 14 of a skeleton, in the paper's order: a cycle, then the NO atoms by rising number, then the UO atoms.
+#![tactic(auto)]
+
 ghost use Rattle.std.specs.Prelude.{◌≡◌, ℕ, ◌+◌, ◌<◌, ◌≤◌, length};
 ghost use Rattle.terms.specs.Set.{mem, IsSetOf};
 ghost use Rattle.model.specs.Says.{node_of};
@@ -18,7 +20,7 @@ use tables::{HEIGHTS, NON_COUNT, NONS, STRAND_COUNT, TERM_COUNT, UNIQ_COUNT, UNI
 use terms::{Node, Strand, Term, TermSet};
 
 // The first fault of a skeleton.
-#[derive(Drop)]
+#[derive(Clone, Copy)]
 pub enum Fault {
     Nothing,
     // The refusal's number and its place.

@@ -6,7 +6,7 @@ use Prim.Native.Nat.{ℕ, zero, suc, ◌<◌}
 use native.Mathlib.Omega.{arith}
 use native.Mathlib.Decide.{ℕ_discrete}
 use Rattle.theory.specs.Each.{Each, each_nil, each_cons}
-use Rattle.theory.specs.Reach.{sent_rules}
+use Rattle.theory.proofs.Reach.{sent_rules}
 use Rattle.theory.specs.Rules.{Rule, ◌⊢◌}
 
 module _ (p : ℕ → Bool) where
@@ -49,3 +49,4 @@ pub is_sent : (is : List ℕ) {i : ℕ} → Memᴰ i is → Memᴰ (◌⊢◌ []
 unfolding sent_rules
 is_sent (j ∷ is) (Memᴰ.head e) = Memᴰ.head (ap (◌⊢◌ []) e)
 is_sent (j ∷ is) (Memᴰ.tail m) = Memᴰ.tail (is_sent is m)
+is_sent [] {i = i} x' = elim x' [ ]

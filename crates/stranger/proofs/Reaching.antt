@@ -14,11 +14,12 @@ use Rattle.terms.specs.Set.{mem}
 use Rattle.model.specs.Term.{Term, atom}
 use Rattle.model.specs.Table.{Row, row, term}
 use Rattle.model.specs.Derive.{Derivable}
-use Rattle.model.specs.SkeletonLaws.{derivable_mono}
+use Rattle.model.proofs.SkeletonLaws.{derivable_mono}
 use Rattle.tables.proofs.Look.{count_is}
 use Rattle.theory.specs.Each.{Each, each_nil, each_cons, each_append}
 use Rattle.theory.specs.GoodTable.{Good}
-use Rattle.theory.specs.Reach.{inverse_at, row_rules, sent_rules, table_rules, NumberSent, NumberWithheld, reached_iff_derivable}
+use Rattle.theory.specs.Reach.{inverse_at}
+use Rattle.theory.proofs.Reach.{row_rules, sent_rules, table_rules, NumberSent, NumberWithheld, reached_iff_derivable}
 use Rattle.theory.specs.RowRules.{of_row, each_row}
 use Rattle.theory.specs.Rules.{Rule, ◌⊢◌, Reached, by}
 use Rattle.tables.specs.Layout.{term_count}
@@ -39,6 +40,7 @@ true_T b e = rw e tt
 
 T_true : (b : Bool) → T b → b ≡ true
 T_true true h = refl
+T_true mathlib.Core.Bool.false h = elim h [ ]
 
 module _ (rows : List Row) (sent withheld : TermSet) {n : ℕ} (e : length rows ≡ n) where
   to_numbers : {x : Term} → Derivable (Named rows sent) (λ a. Named rows withheld (atom a)) x

@@ -12,7 +12,8 @@ use Rattle.model.specs.Table.{Row, Tag, Mesg, Text, Datum, Name, Skey, Akey, Pub
 use Rattle.tables.proofs.Look.{count_is, row_in}
 use Rattle.theory.specs.Each.{Each, each_nil, each_cons, each_append}
 use Rattle.theory.specs.GoodTable.{Good}
-use Rattle.theory.specs.Reach.{inverse_at, atom_rules, row_rules}
+use Rattle.theory.specs.Reach.{inverse_at}
+use Rattle.theory.proofs.Reach.{atom_rules, row_rules}
 use Rattle.theory.specs.Rules.{Rule, ◌⊢◌}
 use Rattle.tables.specs.Layout.{firsts, seconds, term_count}
 use Rattle.tables.specs.Tables.{byte, rows_in, Filled}

@@ -1,5 +1,5 @@
 -- What rules that are followed do to a set. A set is given by its words.
-use Rattle.std.specs.Prelude.{◌≡◌, Bool, true, ◌||◌, ◌&&◌, ℕ, ◌≤◌, ◌<◌, eqb}
+use Rattle.std.specs.Prelude.{◌≡◌, true, ℕ, ◌≤◌, ◌<◌}
 use mathlib.Core.List.{List, Memᴰ}
 use Rattle.terms.specs.Set.{member}
 use Rattle.theory.specs.Rules.{Rule, Reached}

@@ -1,5 +1,7 @@
 // What the stranger can derive of the terms of a sheet: a closure over the table, handed back only when it has stopped growing.
 // A pass over the table is lent the words of the set, so that nothing is copied on the way.
+#![tactic(auto)]
+
 ghost use Rattle.std.specs.Prelude.{◌≡◌, [], ◌∷◌, ◌<◌, length};
 ghost use Rattle.terms.specs.Set.{member};
 ghost use Rattle.theory.specs.GoodTable.{Good};

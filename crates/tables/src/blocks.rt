@@ -20,7 +20,7 @@ pub const SEND: u8 = 0;
 pub const RECEIVE: u8 = 1;
 
 // What a strand does at a node, where there is such a node.
-#[derive(Drop)]
+#[derive(Clone, Copy)]
 pub enum Event {
     Send(Term),
     Reception(Term),

@@ -1,5 +1,7 @@
 // The table that a sheet is read into: one part of memory that whoever calls lends. Where everything lies in it, and what it
 // means, is said in specs/Layout.antt and specs/Tables.antt.
+#![tactic(auto)]
+
 ghost use Rattle.std.specs.Prelude.{◌≡◌};
 
 pub mod blocks;

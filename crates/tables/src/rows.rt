@@ -35,7 +35,7 @@ pub const HASH: u8 = 12;
 const NO_KIND: u8 = 255;
 
 // A TM record: a term's kind and its two arguments. They are terms, or, for kinds 0 to 6, the first is just a number.
-#[derive(Drop)]
+#[derive(Clone, Copy)]
 pub struct Row {
     pub kind: u8,
     pub first: u8,

@@ -1,25 +1,27 @@
 // Sets of term numbers, as words of bits: number k is bit k % 64 of word k / 64.
+#![tactic(auto)]
+
 ghost use Rattle.std.specs.Prelude.{◌≡◌, ◌||◌, ◌&&◌, not, true, false, ◌↔◌, ℕ, ◌≤◌, eqb, length};
 ghost use lib.Count;
 ghost use Rattle.terms.specs.Set.{member, mem, Added, IsSize};
 
 // A term's number on a sheet: never a strand's.
-#[derive(Drop)]
+#[derive(Clone, Copy)]
 pub struct Term(pub u8);
 
 // A strand's number in a skeleton: never a term's.
-#[derive(Drop)]
+#[derive(Clone, Copy)]
 pub struct Strand(pub u8);
 
 // An event of a strand, by its position.
-#[derive(Drop)]
+#[derive(Clone, Copy)]
 pub struct Node {
     pub strand: Strand,
     pub position: u8,
 }
 
 // A set of term numbers.
-#[derive(Drop)]
+#[derive(Clone, Copy)]
 pub struct TermSet {
     pub words: [u64; 4],
 }

@@ -6,7 +6,7 @@ use Rattle.std.proofs.Math.Option.{Option, none, some}
 use Rattle.model.specs.Term.{Sym, skey, Asym, akey, Atom, text, datum, name, symmetric, asymmetric, Term, tag, mesg, atom, pair, enc, hash, inv}
 use Rattle.model.specs.Subst.{Subst, on_atom, on_asym, on_sym, turned, apply}
 use Rattle.model.specs.Table.{Row, Tag, Mesg, Text, Datum, Name, Skey, Akey, Pubk, Inv, Ltk, Pair, Enc, Hash, row, name_of, meaning, term}
-use Rattle.model.specs.Laws.{inv-inv, inv_apply}
+use Rattle.model.proofs.Laws.{inv-inv, inv_apply}
 use Rattle.theory.specs.GoodTable.{IsName, IsKey, Good, Earlier, Sorted}
 use Rattle.theory.specs.Numbers.{row_of, term_law, law, number, number_term, row_is, key_shown, name_shown}
 use Rattle.theory.specs.OnSheet.{OnSheet, on_inverse, term_number, number_inside}

@@ -4,7 +4,7 @@ use Rattle.std.specs.Prelude.{◌≡◌, Bool, ◌&&◌, ◌↔◌, ◌≢◌, L
 use Rattle.std.proofs.Math.Path.{refl, ap₂}
 use Rattle.std.proofs.Common.{ap, ◌∙◌, sym as back, true≢false, arith, add-zero, le-leb, leb-true, length-append, length-drop}
 use Rattle.std.proofs.Math.Bool.{true, false}
-use Rattle.std.proofs.Math.Logic.{Iff·trans}
+use Rattle.std.proofs.Math.Logic.Iff
 use Rattle.std.proofs.Math.Option.{Option, none, some}
 use Rattle.std.proofs.Math.Dec.{leb}
 use Rattle.std.proofs.Math.ListN.{get_or-append}
@@ -14,7 +14,7 @@ use Rattle.model.specs.Lists.{every, upto}
 use Rattle.model.specs.Table.{Row}
 use Rattle.model.specs.Skeleton.{Skeleton}
 use Rattle.model.specs.Sheet.{Sheet, Refusal, refused}
-use Rattle.model.specs.Reading.{Mark, BS, TM, SK, ST, OR, NO, UO, EN, may_follow, Record, strand, order, non, uniq, size, State, start, in_work, Said, refuse, says, check, need, read_BS, read_TM, event_in, event_right, read_ST, read_OR, read_atom, read_as, marked_as, read_record, after, Reading, read, fault, ended, Read, at_end, beyond, at_fault, next}
+use Rattle.model.specs.Reading.{Mark, BS, TM, SK, ST, OR, NO, UO, EN, may_follow, Record, strand, non, uniq, size, State, start, in_work, Said, refuse, says, check, need, read_BS, read_TM, event_in, event_right, read_ST, read_OR, read_atom, read_as, marked_as, read_record, after, Reading, read, fault, ended, Read, at_end, beyond, at_fault, next}
 use Rattle.model.specs.Judging.{HasVerdict, unread}
 use Rattle.theory.specs.Upto.{upto_same, every_same}
 use Rattle.theory.specs.Records.{was_read}
@@ -210,7 +210,7 @@ going_on {l} place e (next g f k) =
       state = h.state;
       left = h.left;
       short = h.short;
-      goes_on = λ more out. Iff·trans (h.goes_on more out)
+      goes_on = λ more out. Iff.trans (h.goes_on more out)
           (goes_past more l out g f);
     }
 

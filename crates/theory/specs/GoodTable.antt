@@ -66,11 +66,13 @@ pub record Good (rows : List Row) : Type 0 where
 name_true : (r : Row) → T (is_name r) → IsName r
 unfolding is_name kind
 name_true (Name a) h = a_name
+name_true _ h = elim h [ ]
 
 key_true : (r : Row) → T (is_key r) → IsKey r
 unfolding is_key kind
 key_true (Akey a) h = an_akey
 key_true (Pubk a) h = a_pubk
+key_true _ h = elim h [ ]
 
 pub key_is : {r : Row} → IsKey r → is_key r ≡ true
 unfolding is_key kind

@@ -35,11 +35,13 @@ module _ {A : Type 0} (p : A → Bool) where
   some_found (y ∷ l) h =
       ⊎_elim (λ k. (y, Memᴰ.head refl, k)) (λ k. let (x, m, q) = some_found l k in (x, Memᴰ.tail m, q))
       (or_cases (p y) (some_of p l) h)
+  some_found [] h = elim h [ ]
 
   pub finds_some : (l : List A) {x : A} → Memᴰ x l → T (p x) → T (some_of p l)
   unfolding some_of
   finds_some (y ∷ l) (Memᴰ.head e) h = or_left (p y) (some_of p l) (rw e at h)
   finds_some (y ∷ l) (Memᴰ.tail m) h = or_right (p y) (some_of p l) (finds_some l m h)
+  finds_some [] x4 h = elim x4 [ ]
 
   pub keeps : (l : List A) {x : A} → Memᴰ x l → T (p x) → Memᴰ x (keep l)
   unfolding keep
@@ -51,6 +53,7 @@ module _ {A : Type 0} (p : A → Bool) where
       go true e (Memᴰ.tail k) f = Memᴰ.tail (f k)
       go false e (Memᴰ.head q) f = absurd (rw (q, e) at h)
       go false e (Memᴰ.tail k) f = f k
+  keeps [] {x = x} m h = elim m [ ]
 
   pub kept : (l : List A) → Each (λ x. Memᴰ x l × T (p x)) (keep l)
   unfolding keep

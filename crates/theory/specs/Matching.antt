@@ -13,7 +13,7 @@ use Rattle.model.specs.Term.{Term, atom_same, same, flip, inv}
 use Rattle.model.specs.Subst.{Subst, apply, on_atom, on_sym, on_asym, turned}
 use Rattle.model.specs.Table.{Row, Tag, Mesg, Text, Datum, Name, Skey, Akey, Pubk, Inv, Ltk, Pair, Enc, Hash, row, name_of, meaning, terms_after, term, first, second}
 use Rattle.theory.specs.Each.{Each, each_nil, each_cons}
-use Rattle.model.specs.Laws.{inv-inv}
+use Rattle.model.proofs.Laws.{inv-inv}
 use Rattle.theory.specs.GoodTable.{Good, Earlier}
 use Rattle.theory.specs.Numbers.{term_injective, number, number_term, number_found}
 use Rattle.theory.specs.ListTests.{all_of, all_each, each_all}

@@ -10,7 +10,7 @@ use Rattle.model.specs.Table.{Row, term}
 use Rattle.model.specs.Skeleton.{Node, Skeleton}
 use Rattle.model.specs.Derive.{Realized}
 use Rattle.model.specs.Sheet.{Sheet, Verdict, Drawing, meant, HasSkeleton}
-use Rattle.model.specs.Rising.{InDictionary, first}
+use Rattle.model.specs.Rising.{InDictionary}
 use Rattle.model.specs.Maps.{to, Kept, Upto, FirstBroken, SourceVariable, Images, TheMaps}
 use Rattle.model.specs.Answers.{Answer, answered, Asked, no_such, too_short, said, Always, Tells, over, Counts, TheSheet, SaysCounts, AskSheet, HasTerms, SaysWithin, AskWithin, HasReception, HasReceptionAndTerm, SaysDerivable, AskDerivable, ReachIs, SaysReach, AskReach, Sooner, strand, position, FirstOpen, Openness, open_at, SaysRealized, yes_realized, first_open, AskRealized, HasSkeletons, Mapping, breaks, ImageRoom, SaysMap, yes_map, no_map, AskMap, end_to_end, ListRoom, SaysList, AskList}
 use Rattle.theory.specs.GoodTable.{Good}

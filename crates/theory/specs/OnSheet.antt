@@ -5,7 +5,7 @@ use Rattle.std.proofs.Common.{◌∙◌, sym as back, arith}
 use Rattle.std.proofs.Math.Bool.{true, false}
 use Rattle.model.specs.Term.{akey, pubk, text, datum, name, symmetric, asymmetric, Term, tag, mesg, atom, pair, enc, hash, flip, inv}
 use Rattle.model.specs.Table.{Row, Inv, row, meaning, term}
-use Rattle.model.specs.Laws.{inv-inv}
+use Rattle.model.proofs.Laws.{inv-inv}
 use Rattle.theory.specs.GoodTable.{IsKey, an_akey, a_pubk, Good, Earlier}
 use Rattle.theory.specs.Numbers.{row_of, term_law, number, number_term, row_is}
 use Rattle.theory.specs.Locality.{Closed}

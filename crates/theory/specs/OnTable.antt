@@ -1,5 +1,5 @@
--- A skeleton on a table: all its numbers are in range. Precedence there is decided.
-use Rattle.std.specs.Prelude.{◌≡◌, Bool, ◌&&◌, ◌↔◌, ℕ, ◌*◌, ◌<◌, eqb}
+-- A skeleton on a table: all its numbers are in range; and the test of precedence there.
+use Rattle.std.specs.Prelude.{◌≡◌, Bool, ◌&&◌, ℕ, ◌*◌, ◌<◌, eqb}
 use mathlib.Core.List.{List, Memᴰ}
 use native.Mathlib.Omega.{arith}
 use Rattle.std.proofs.Math.Dec.{T, eqb_refl}
@@ -8,13 +8,11 @@ use Rattle.std.proofs.Math.ListN.{length}
 use Rattle.model.specs.Lists.{some_of}
 use Rattle.model.specs.Table.{Row}
 use Rattle.model.specs.Skeleton.{Event, message, Node, Skeleton, At, trace, height}
-use Rattle.model.specs.Events.{Before}
 use Rattle.theory.specs.Tests.{both, pair_up}
 use Rattle.theory.specs.Each.{Each}
 use Rattle.theory.specs.Places.{inside_list}
-use Rattle.theory.specs.ListTests.{some_found, finds_some}
 use Rattle.theory.specs.Rules.{marked, reach}
-use Rattle.theory.specs.Precedence.{a_strand, code, Low, Edge, Leads, edges, to_rules, leads_decided, before_edge, edge_leads}
+use Rattle.theory.specs.Precedence.{a_strand, code, Low, Edge, edges, to_rules}
 
 pub record OnTable (rows : List Row) (K : Skeleton ℕ) : Type 0 where
   pub messages : (n : Node) (e : Event ℕ) → At K n e → message e < length rows
@@ -50,23 +48,6 @@ unfolding some_of precedes same_node edges
 before K m n = some_of (λ e. same_node e.0 m && precedes K n e) (edges K)
 
 module _ (rows : List Row) (K : Skeleton ℕ) (ok : OnTable rows K) where
-  pub before_iff : (m n : Node) → Low n → code n < length K.strands * 16 → T (before K m n) ↔ Before K m n
-  unfolding before precedes
-  before_iff m n h k = (
-    λ t.
-        let ((a, b), l, q) = some_found (λ e. same_node e.0 m && precedes K n e) (edges K) t in
-        let (x, y) = both (same_node a m) _ q in
-        rw (same_node_true a m x) at (edge_leads K l ((decided b (ok.low (a, b) l).1).0 y)),
-    λ p.
-        let (o, l, q) = before_edge K p in
-        finds_some (λ e. same_node e.0 m && precedes K n e) (edges K) l
-        (pair_up (same_node m m) _ (same_node_refl m) ((decided o (ok.low (m, o) l).1).1 q)),
-  )
-    where
-      decided : (o : Node) → Low o
-          → T (marked (reach (to_rules (edges K) n) (length K.strands * 16)) (code o)) ↔ Leads (edges K) o n
-      decided o l = leads_decided (edges K) ok.low n h (length K.strands * 16) (λ e m. (ok.nodes e m).0) k o l
-
   pub node_inside : {n : Node} {e : Event ℕ} → At K n e → code n < length K.strands * 16
   unfolding code Low
   node_inside {n} {e} a =

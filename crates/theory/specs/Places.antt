@@ -43,11 +43,14 @@ module _ {A : Type 0} where
     pub inside : place < length l
     pub is : get_or l place d ≡ x
 
-  pub stands : {l : List A} {x : A} (d : A) → Memᴰ x l → Stands l d x
-  stands d (Memᴰ.head e) = record { place = 0; inside = omega arith; is = back e }
-  stands d (Memᴰ.tail m) =
-      let s = stands d m in
+  stands_in : {x : A} {l : List A} (d : A) → Memᴰ x l → Stands l d x
+  stands_in d (Memᴰ.head e) = record { place = 0; inside = omega arith; is = back e }
+  stands_in d (Memᴰ.tail m) =
+      let s = stands_in d m in
       record { place = suc s.place; inside = omega (arith, s.inside); is = s.is }
+
+  pub stands : {l : List A} {x : A} (d : A) → Memᴰ x l → Stands l d x
+  stands d m = stands_in d m
 
   pub in_reversed : (l : List A) {x : A} → Memᴰ x (reversed l) → Memᴰ x l
   unfolding reversed

@@ -1,7 +1,6 @@
--- Precedence decided on node numbers.
-use Rattle.std.specs.Prelude.{◌≡◌, refl, ◌↔◌, T, length}
+-- Precedence on node numbers: the edges of a skeleton, and the rules that reach what leads to a node.
+use Rattle.std.specs.Prelude.{◌≡◌, refl, ◌↔◌, length}
 use Rattle.std.proofs.Common.{ap, arith}
-use Rattle.std.proofs.Math.Logic.{Iff·trans}
 use mathlib.Core.List.Memᴰ
 use mathlib.Core.List.{List, [], ◌∷◌, ◌++◌, Memᴰ}
 use Prim.Native.Nat.{ℕ, zero, suc, ◌+◌, ◌*◌, ◌≤◌, ◌<◌}
@@ -10,7 +9,7 @@ use Rattle.std.proofs.Math.ListN.{get_or-eq_default}
 use Rattle.model.specs.Skeleton.{Node, Skeleton, height}
 use Rattle.model.specs.Events.{Before, next, listed, chain}
 use Rattle.theory.specs.Each.{Each, each_nil, each_cons, each_append}
-use Rattle.theory.specs.Rules.{Rule, ◌⊢◌, Reached, by, marked, reach, reach_iff, InRange}
+use Rattle.theory.specs.Rules.{Rule, ◌⊢◌, Reached, by}
 
 -- a node's code; no strand is higher than 16
 unfoldable pub code : Node → ℕ
@@ -56,8 +55,9 @@ edge_rule : (es : List Edge) {m n : Node} → Memᴰ (m, n) es → Memᴰ (◌�
 unfolding edge_rules
 edge_rule (e ∷ es) (Memᴰ.head q) = Memᴰ.head (ap (λ (d : Edge). ◌⊢◌ (code d.1 ∷ []) (code d.0)) q)
 edge_rule (e ∷ es) (Memᴰ.tail k) = Memᴰ.tail (edge_rule es k)
+edge_rule [] {m = m} {n = n} x' = elim x' [ ]
 
-each_edge : (P : Rule → Type 0) (es : List Edge) → Each (λ e. P (◌⊢◌ (code e.1 ∷ []) (code e.0))) es
+pub each_edge : (P : Rule → Type 0) (es : List Edge) → Each (λ e. P (◌⊢◌ (code e.1 ∷ []) (code e.0))) es
     → Each P (edge_rules es)
 unfolding edge_rules
 each_edge P [] f = each_nil P
@@ -187,18 +187,3 @@ module _ {M : Type 0} (K : Skeleton M) where
   unfolding Kept
   edge_leads e stop = edge_before _ e
   edge_leads e (step f l) = chain (edge_before _ e) (edge_leads f l)
-
--- The computation
-
-module _ (es : List Edge) (low : Each (λ e. Low e.0 × Low e.1) es) (goal : Node) (goal_low : Low goal) (n : ℕ)
-    (inside : Each (λ e. code e.0 < n) es) (goal_inside : code goal < n) where
-  Below : Rule → Type 0
-  Below r = r.gives < n
-
-  rules_below : Each Below (to_rules es goal)
-  unfolding to_rules Below
-  rules_below = each_cons Below goal_inside (each_edge Below es inside)
-
-  pub leads_decided : (m : Node) → Low m → T (marked (reach (to_rules es goal) n) (code m)) ↔ Leads es m goal
-  unfolding InRange Below
-  leads_decided m h = Iff·trans (reach_iff n (to_rules es goal) rules_below (code m)) (reached_iff_leads es low goal goal_low m h)

@@ -281,6 +281,7 @@ record_bytes s rest {r} e =
 check_passes : (b : Bool) (n : ℕ) (x : Said) → T b → check b n x ≡ x
 unfolding check
 check_passes true n x h = refl
+check_passes false n x h = elim h [ ]
 
 -- all bytes are there; there is room
 enough : (k n : ℕ) (x : Said) → k ≤ n → check (leb k n) 1 x ≡ x
@@ -300,6 +301,7 @@ same_mark_is OR OR h = refl
 same_mark_is NO NO h = refl
 same_mark_is UO UO h = refl
 same_mark_is EN EN h = refl
+same_mark_is _ _ h = elim h [ ]
 
 finds_mark : (m : Mark) (ms : List Mark) → T (some_of (same_mark m) ms)
     → marked_as (mark_bytes m).0 (mark_bytes m).1 ms ≡ some m
@@ -313,6 +315,7 @@ finds_mark m (k ∷ ms) h =
         → cond t (some k) (marked_as (mark_bytes m).0 (mark_bytes m).1 ms) ≡ some m
     go true q f h = ap some (back (same_mark_is m k (rw q tt)))
     go false q f h = f h
+finds_mark m [] h = elim h [ ]
 
 -- past a mark and a height
 past_three : (a b c : ℕ) (l : List ℕ) (q p : ℕ) → q ≡ 3 + p → get_or (a ∷ b ∷ c ∷ l) q 0 ≡ get_or l p 0

@@ -5,7 +5,7 @@ use Rattle.std.proofs.Math.Bool.{true, false}
 use mathlib.Core.List.Memᴰ
 use mathlib.Core.List.{List, [], ◌∷◌, ◌++◌, Memᴰ}
 use Rattle.model.specs.Lists.{upto}
-use Rattle.model.specs.Rising.{Rising, none, more, InDictionary, first, later}
+use Rattle.model.specs.Rising.{Rising, none, more, InDictionary, first, later, shorter}
 use Rattle.theory.specs.ListTests.{keep, keeps, kept}
 use Rattle.theory.specs.Upto.{in_upto, below_upto}
 
@@ -36,11 +36,19 @@ module _ {A : Type 0} (before : A → A → Type 0) (asym : (x y : A) → before
       (λ z q. in_rest (rw e at (h z q)) (Memᴰ.cases_cons (f z (Memᴰ.tail q))))
       (λ z q. in_rest (rw (← e) at (k z q)) (Memᴰ.cases_cons (g z (Memᴰ.tail q)))))
 
+not_back : {l m p q : List ℕ} → InDictionary l m → InDictionary p q → m ≡ p → l ≡ q → ⊥
+not_back (first {x = x} {y = y} h) (first {x = a} {y = b} k) e f = let c : y ≡ a = (cc) in let d : x ≡ b = cc in omega arith
+not_back (first {x = x} {y = y} h) (later {x = a} k) e f = let c : y ≡ a = (cc) in let d : x ≡ a = cc in omega arith
+not_back (first h) shorter e f = cc
+not_back (later {x = a} h) (first {x = x} {y = y} k) e f = let c : a ≡ x = (cc) in let d : a ≡ y = cc in omega arith
+not_back (later h) (later k) e f = not_back h k (cc) (cc)
+not_back (later h) shorter e f = cc
+not_back shorter (first k) e f = cc
+not_back shorter (later k) e f = cc
+not_back shorter shorter e f = cc
+
 pub dictionary_asym : (l m : List ℕ) → InDictionary l m → ¬ InDictionary m l
-dictionary_asym (x ∷ l) (y ∷ m) (first h) (first k) = omega arith
-dictionary_asym (x ∷ l) (y ∷ m) (first h) (later k) = omega arith
-dictionary_asym (x ∷ l) (y ∷ m) (later h) (first k) = omega arith
-dictionary_asym (x ∷ l) (y ∷ m) (later h) (later k) = dictionary_asym l m h k
+dictionary_asym l m h k = not_back h k refl refl
 
 module _ {A : Type 0} (before : A → A → Type 0) where
   pub rising_append : (l m : List A) → Rising before l → Rising before m

@@ -133,6 +133,7 @@ pub may_BS : (l : Option Mark) → T (may l BS) → rank l ≤ 0
 unfolding may rank
 may_BS none t = omega arith
 may_BS (some BS) t = absurd t
+may_BS _ t = elim t [ ]
 
 pub record Between (a b n : ℕ) : Type 0 where
   pub from : a ≤ n
@@ -142,6 +143,7 @@ pub may_TM : (l : Option Mark) → T (may l TM) → Between 1 2 (rank l)
 unfolding may rank
 may_TM (some BS) t = record { from = omega arith; to = omega arith }
 may_TM (some TM) t = record { from = omega arith; to = omega arith }
+may_TM _ t = elim t [ ]
 
 pub may_SK : (l : Option Mark) → T (may l SK) → Between 1 2 (rank l) ⊎ Between 4 7 (rank l)
 unfolding may rank
@@ -151,22 +153,26 @@ may_SK (some ST) t = inr (record { from = omega arith; to = omega arith })
 may_SK (some OR) t = inr (record { from = omega arith; to = omega arith })
 may_SK (some NO) t = inr (record { from = omega arith; to = omega arith })
 may_SK (some UO) t = inr (record { from = omega arith; to = omega arith })
+may_SK _ t = elim t [ ]
 
 pub may_ST : (l : Option Mark) → T (may l ST) → Between 3 4 (rank l)
 unfolding may rank
 may_ST (some SK) t = record { from = omega arith; to = omega arith }
 may_ST (some ST) t = record { from = omega arith; to = omega arith }
+may_ST _ t = elim t [ ]
 
 pub may_OR : (l : Option Mark) → T (may l OR) → Between 4 5 (rank l)
 unfolding may rank
 may_OR (some ST) t = record { from = omega arith; to = omega arith }
 may_OR (some OR) t = record { from = omega arith; to = omega arith }
+may_OR _ t = elim t [ ]
 
 pub may_NO : (l : Option Mark) → T (may l NO) → Between 4 6 (rank l)
 unfolding may rank
 may_NO (some ST) t = record { from = omega arith; to = omega arith }
 may_NO (some OR) t = record { from = omega arith; to = omega arith }
 may_NO (some NO) t = record { from = omega arith; to = omega arith }
+may_NO _ t = elim t [ ]
 
 pub may_UO : (l : Option Mark) → T (may l UO) → Between 4 7 (rank l)
 unfolding may rank
@@ -174,6 +180,7 @@ may_UO (some ST) t = record { from = omega arith; to = omega arith }
 may_UO (some OR) t = record { from = omega arith; to = omega arith }
 may_UO (some NO) t = record { from = omega arith; to = omega arith }
 may_UO (some UO) t = record { from = omega arith; to = omega arith }
+may_UO _ t = elim t [ ]
 
 pub may_EN : (l : Option Mark) → T (may l EN) → Between 4 7 (rank l)
 unfolding may rank
@@ -181,6 +188,7 @@ may_EN (some ST) t = record { from = omega arith; to = omega arith }
 may_EN (some OR) t = record { from = omega arith; to = omega arith }
 may_EN (some NO) t = record { from = omega arith; to = omega arith }
 may_EN (some UO) t = record { from = omega arith; to = omega arith }
+may_EN _ t = elim t [ ]
 
 -- which lists are still empty
 pub record InOrder (s : State) : Type 0 where

@@ -5,7 +5,7 @@ use Rattle.std.proofs.Math.Bool.{true, false}
 use Rattle.model.specs.Subst.{Subst, turned, on_sym, on_asym, on_atom, apply, Variable, a_mesg, a_text, a_datum, a_name, an_skey, an_akey}
 use Rattle.model.specs.Term.{Sym, skey, ltk, Asym, akey, pubk, Atom, text, datum, name, symmetric, asymmetric, Term, tag, mesg, atom, pair, enc, hash, flip}
 use Rattle.model.specs.Carry.{Inside, in_inverse, in_pubk, in_ltk_left, in_ltk_right, Occurs, here, left, right, body, key, hashed, inside}
-use Rattle.model.specs.Laws.{not-not}
+use Rattle.model.proofs.Laws.{not-not}
 
 -- The plain substitution, and one after another
 

@@ -4,12 +4,15 @@ use Rattle.std.proofs.Common.{sym, ◌∙◌, true≢false, inl, inr}
 
 pub both : (a b : Bool) → T (a && b) → T a × T b
 both true b h = (tt, h)
+both false b h = elim h [ ]
 
 pub pair_up : (a b : Bool) → T a → T b → T (a && b)
 pair_up true b h k = k
+pair_up false b h k = elim h [ ]
 
 pub implied : (a b : Bool) → T (not a || b) → T a → T b
 implied true b h k = h
+implied false b h k = elim k [ ]
 
 pub implies : (a b : Bool) → (T a → T b) → T (not a || b)
 implies true b f = f tt
@@ -21,6 +24,7 @@ or_cases false b h = inr h
 
 pub or_left : (a b : Bool) → T a → T (a || b)
 or_left true b h = tt
+or_left false b h = elim h [ ]
 
 pub or_right : (a b : Bool) → T b → T (a || b)
 or_right true b h = tt

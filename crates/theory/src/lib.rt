@@ -1,1 +1,2 @@
-// Laws and decision procedures about the definitions of `model`. They stand in specs/; there is no code.
+// Laws and decision procedures about the definitions of `model`. They stand in specs/ and proofs/; there is no code.
+#![tactic(auto)]

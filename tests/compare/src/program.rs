@@ -22,9 +22,9 @@ const PACKETS: i32 = 0o200_000;
 pub struct Program(Vec<OsString>);
 
 impl Program {
-    /// `target/bin/bench`, or what the environment names.
+    /// `crates/bench/out/bench`, or what the environment names.
     pub fn bench() -> Self {
-        let ours = concat!(env!("CARGO_MANIFEST_DIR"), "/../../target/bin/bench");
+        let ours = concat!(env!("CARGO_MANIFEST_DIR"), "/../../crates/bench/out/bench");
         let named = std::env::var_os("BENCH_PROGRAM");
         Program(vec![named.unwrap_or_else(|| ours.into())])
     }

@@ -1,0 +1,34 @@
+-- `bench::put_maps` meets its contract: the lines of the maps before the loop's index are written. Assumes nothing.
+use mathlib.Core.Path.{◌≡◌}
+use Prim.Native.Nat.{◌+◌, ◌*◌}
+use native.Mathlib.Omega.{arith}
+use Rattle.bench.proofs.MapLines.{maps_none, maps_more, piece}
+use Rattle.bench.proofs.put_maps.Goals as goal
+
+pub loop-k-init : goal.loop-k-init
+loop-k-init c = (omega arith, omega arith, maps_none (omega arith))
+
+pub overflow_mul-k : goal.overflow_mul-k
+overflow_mul-k c =
+    let a = c.args in
+    let p = piece c.loop-k.k a.count a.n (omega arith) in
+    omega arith
+
+pub put_map-next-requires : goal.put_map-next-requires
+put_map-next-requires c =
+    let a = c.args in
+    let k = c.loop-k.k in
+    let p = piece k a.count a.n (omega arith) in
+    let q = piece k a.count (4 * a.n + 1) (omega arith) in
+    (omega arith, omega arith)
+
+pub loop-k-preserved : goal.loop-k-preserved
+loop-k-preserved c =
+    let more = maps_more c.loop-k.invariant.2 c.put_map-next.ensures in
+    (omega arith, omega arith, more)
+
+pub returns : goal.returns
+returns c =
+    let a = c.args in
+    let e : c.loop-k.k ≡ a.count = omega arith in
+    rw e at c.loop-k.invariant.2.put

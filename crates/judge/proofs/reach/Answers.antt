@@ -1,0 +1,23 @@
+-- `judge::reach` meets its contract. Assumes nothing.
+use borrow.Author.Rules.{rules}
+use Rattle.model.specs.Says.{reach_says}
+use Rattle.accept.proofs.InTurn.{held_stored}
+use Rattle.judge.proofs.Answered.{was_good, refused_small, gives_held, reach_refused, reach_small}
+use Rattle.judge.proofs.reach.Goals as goal
+
+pub reach-requires : goal.reach-requires
+reach-requires c =
+    (held_stored (was_good c.accept-accepted.ensures c.in-Good.is), search rules)
+
+pub returns-in-Refused : goal.returns-in-Refused
+unfolding reach_says
+returns-in-Refused c =
+    let a = c.accept-accepted.ensures in
+    let e = c.in-Refused.is in
+    (reach_refused _ _ _ a e, refused_small _ a e)
+
+pub returns-in-Good : goal.returns-in-Good
+returns-in-Good c =
+    let h = was_good c.accept-accepted.ensures c.in-Good.is in
+    let g = gives_held _ h c.reach.ensures in
+    (g, reach_small _ _ _ g)

@@ -1,0 +1,31 @@
+-- `list::put_digits` meets its contract. Assumes nothing.
+use native.Mathlib.Omega.{arith}
+use borrow.Author.Rules.{rules}
+use Rattle.list.proofs.Written.{left_none, left_more, left_all, weight_some, digit_low}
+use Rattle.list.proofs.put_digits.Goals as goal
+
+pub loop-i-init : goal.loop-i-init
+loop-i-init c = left_none _ _ _ _ _ _ c.power-weight.ensures.0 (search rules)
+
+pub nonzero_div-out : goal.nonzero_div-out
+nonzero_div-out c = weight_some _ _ _ _ _ c.loop-i.invariant (search rules) (search rules)
+
+pub overflow_cast-out : goal.overflow_cast-out
+overflow_cast-out c =
+    let low = digit_low _ _ _ _ _ c.loop-i.invariant (search rules) (search rules) in
+    omega (arith, low)
+
+pub bounds-out-at : goal.bounds-out-at
+bounds-out-at c = omega (arith, c.loop-i.invariant.same)
+
+pub nonzero_rem-rest : goal.nonzero_rem-rest
+nonzero_rem-rest c = weight_some _ _ _ _ _ c.loop-i.invariant (search rules) (search rules)
+
+pub loop-i-preserved : goal.loop-i-preserved
+loop-i-preserved c = left_more _ _ _ _ _ c.loop-i.invariant (search rules) (search rules)
+
+pub shape_of-out : goal.shape_of-out
+shape_of-out c = c.loop-i.invariant.same
+
+pub returns : goal.returns
+returns c = left_all _ _ _ _ _ c.loop-i.invariant (omega (arith, c.loop-i.invariant.most)) (search rules)
