@@ -1,14 +1,13 @@
 -- The skeletons judged in turn give the verdict on the sheet in the table. Assumes nothing.
-use mathlib.Core.Path.{◌≡◌, ◌∙◌, sym as back}
+use mathlib.Core.Path.{◌≡◌}
 use mathlib.Core.List.{List}
 use Prim.Native.Nat.{ℕ, ◌+◌, ◌<◌}
 use native.Mathlib.Omega.{arith}
-use native.Mathlib.Decide.{dec_lt}
-use lib.ListN.{length}
+use borrow.Author.Count.{below_more}
+use Rattle.std.specs.Prelude.{Ok, Err}
+use Rattle.model.specs.declared.Reason.{Reason}
 use Rattle.model.specs.Sheet.{Verdict, Drawing, HasSkeleton}
 use Rattle.model.specs.Accepting.{Accepting, Lacking, Right}
-use Rattle.model.specs.Judging.{unread, judged}
-use Rattle.model.specs.Reading.{Read, start, read}
 use Rattle.model.specs.Says.{refusal_of}
 use Rattle.theory.specs.Judgement.{Raw}
 use Rattle.theory.proofs.Judgement.{good_of}
@@ -19,31 +18,25 @@ use Rattle.theory.specs.Upto.{length-upto}
 use Rattle.tables.specs.Tables.{byte, rows_of, rows_in, sheet_in, Filled}
 use Rattle.terms.specs.declared.Term.{Term}
 use Rattle.model.specs.Table.{Row}
-use Rattle.keys.specs.declared.Keys.{Keys}
+use Rattle.keys.specs.declared.Inverses.{Inverses}
 use Rattle.keys.specs.Inverted.{Inverted, Paired}
-use Rattle.reading.specs.declared.Reading.{Reading}
-use Rattle.reading.specs.Answers.{ReadInto}
 use Rattle.rules.specs.declared.Fault.{Fault}
 use Rattle.tables.specs.Drawn.{drawing}
-use Rattle.rules.specs.Judged.{JudgedAs}
-use Rattle.accept.specs.declared.Accepted.{Accepted}
-use Rattle.accept.specs.Held.{AllDrawn, RightBelow, JudgedAll, SheetAs, Held, AcceptedAs, Stored}
+use Rattle.rules.specs.Judged.{JudgedAs, FaultIs}
+use Rattle.accept.specs.Held.{AllDrawn, RightBelow, Held, Stored}
 use Rattle.accept.proofs.Lies.{has_skeleton, skeleton_lies}
 
 pub right_none : (t : List ℕ) → RightBelow t 0
 right_none t = record { at = λ j h. absurd (omega arith) }
 
-judged_right : {D : Drawing} {f : Fault} → JudgedAs D f → f ≡ Fault.Nothing → Right D
-judged_right (JudgedAs.right r) e = r
-judged_right (JudgedAs.faulty x) e = let z : ◌≡◌ {A = ℕ} 0 1 = cc in absurd (omega arith)
+pub judged_right : {D : Drawing} {x : Unit {0}} → JudgedAs D (Ok x) → Right D
+judged_right (JudgedAs.right r) = r
 
-pub right_more : (t : List ℕ) (k : ℕ) {f : Fault} → RightBelow t k → JudgedAs (drawing t (block k)) f → f ≡ Fault.Nothing
-    → RightBelow t (k + 1)
-right_more t k r g e = record { at = λ j h. go j h (dec_lt j k) }
-  where
-    go : (j : ℕ) → j < k + 1 → Dec (j < k) → Right (drawing t (block j))
-    go j h (yes l) = r.at j l
-    go j h (no l) = let z : j ≡ k = omega arith in rw z (judged_right g e)
+pub judged_faulty : {D : Drawing} {f : Fault} → JudgedAs D (Err f) → FaultIs D f
+judged_faulty (JudgedAs.faulty x) = x
+
+pub right_more : (t : List ℕ) (k : ℕ) → RightBelow t k → Right (drawing t (block k)) → RightBelow t (k + 1)
+right_more t k r g = record { at = below_more _ _ r.at g }
 
 -- all that stand before are right, of the sheet
 sheet_right : (t : List ℕ) (n : ℕ) → RightBelow t n → (j : ℕ) (E : Drawing) → j < n → HasSkeleton j (sheet_in t) E → Right E
@@ -54,24 +47,16 @@ module _ (t : List ℕ) (whole : (i : ℕ) → ¬ Lacking (rows_in t) i) where
   unfolding sheet_in
   no_lacking = whole
 
-  pub all_right : RightBelow t (byte t skeleton_count) → JudgedAll (sheet_in t) Accepted.Good
+  pub all_right : RightBelow t (byte t skeleton_count) → Accepting (sheet_in t) (Verdict.accepted (sheet_in t))
   all_right r =
-      JudgedAll.right
-      (Accepting.right no_lacking (λ k D h. sheet_right t (byte t skeleton_count) r k D (skeleton_lies t k D h).inside h))
+      Accepting.right no_lacking (λ k D h. sheet_right t (byte t skeleton_count) r k D (skeleton_lies t k D h).inside h)
 
-  pub one_faulty : (k number place p : ℕ) {f : Fault} → k < byte t skeleton_count → RightBelow t k
-      → JudgedAs (drawing t (block k)) f
-      → f ≡ Fault.Found number place
-      → p ≡ place
-      → JudgedAll (sheet_in t) (Accepted.Refused (record { number = number; place = p; skeleton = k }))
+  pub one_faulty : (f : Fault) {p : ℕ} (k : ℕ) → k < byte t skeleton_count → RightBelow t k
+      → FaultIs (drawing t (block k)) f
+      → p ≡ f.place
+      → Accepting (sheet_in t) (Verdict.refused (refusal_of (record { reason = f.reason; place = p; skeleton = k })))
   unfolding refusal_of
-  one_faulty k number place p h r (JudgedAs.right x) e q = let z : ◌≡◌ {A = ℕ} 0 1 = cc in absurd (omega arith)
-  one_faulty k number place p h r (JudgedAs.faulty {number = n} {place = m} x) e q =
-      let a : n ≡ number = cc in
-      let b : m ≡ place = cc in
-      let v : Accepting (sheet_in t) (Verdict.refused (record { number = number; place = p; skeleton = k })) =
-      rw (q, ← a, ← b) (Accepting.faulty no_lacking (has_skeleton t k h) (sheet_right t k r) x) in
-      JudgedAll.faulty v
+  one_faulty f k h r x e = rw e (Accepting.faulty no_lacking (has_skeleton t k h) (sheet_right t k r) x)
 
 -- a sheet that was read is ready to be judged
 
@@ -101,47 +86,19 @@ module _ (t : List ℕ) (f : Filled t) (r : Raw (sheet_in t)) (whole : (i : ℕ)
         few = f.skeletons;
       }
 
--- the keys, and then the skeletons
+-- the keys
 
-pub keys_paired : {rows : List Row} {inverses : List ℕ} {k : Keys} → Paired rows inverses k → k ≡ Keys.Paired
-    → ((i : ℕ) → ¬ Lacking rows i) × Inverted rows inverses
-keys_paired (Paired.all n i) e = (n, i)
-keys_paired (Paired.lacks l f) e = let z : ◌≡◌ {A = ℕ} 0 1 = cc in absurd (omega arith)
+pub keys_paired : {rows : List Row} {inverses : Inverses} → Paired rows (Ok inverses)
+    → ((i : ℕ) → ¬ Lacking rows i) × Inverted rows inverses.of
+keys_paired (Paired.all n i) = (n, i)
 
-pub keys_lack : (t inverses : List ℕ) (w : Term) (p : ℕ) {k : Keys} → Paired (rows_in t) inverses k → k ≡ Keys.Without w
-    → p ≡ w.0
-    → SheetAs t inverses (Accepted.Refused (record { number = 9; place = p; skeleton = 0 }))
+pub keys_lack : (t : List ℕ) {key : Term} {p : ℕ} → Paired (rows_in t) (Err key) → p ≡ key.0
+    → Accepting (sheet_in t)
+    (Verdict.refused (refusal_of (record { reason = Reason.KeyWithoutInverse; place = p; skeleton = 0 })))
 unfolding refusal_of sheet_in
-keys_lack t inverses w p (Paired.all n i) e q = let z : ◌≡◌ {A = ℕ} 0 1 = cc in absurd (omega arith)
-keys_lack t inverses w p (Paired.lacks {t = u} l f) e q =
-    let a : u ≡ w.0 = cc in
-    let b : u ≡ p = a ∙ back q in
-    SheetAs.faulty (Accepting.lacks (rw b at l) (rw b at f))
+keys_lack t (Paired.lacks l f) e = rw e (Accepting.lacks l f)
 
-pub sheet_as : (t inverses : List ℕ) {r : Accepted} → Inverted (rows_in t) inverses → length inverses ≡ 200
-    → JudgedAll (sheet_in t) r
-    → SheetAs t inverses r
-sheet_as t inverses i l (JudgedAll.right a) = SheetAs.right a i l
-sheet_as t inverses i l (JudgedAll.faulty a) = SheetAs.faulty a
-
--- from the bytes
-
-pub faulty_read : (bytes t inverses : List ℕ) (number place : ℕ) {r : Reading} → ReadInto bytes r t
-    → r ≡ Reading.Faulty number place
-    → AcceptedAs bytes t inverses (Accepted.Refused (record { number = number; place = place; skeleton = 0 }))
-unfolding refusal_of
-faulty_read bytes t inverses number place i e = AcceptedAs.refused (unread (rw e at i.reads))
-
-pub was_read : {bytes t : List ℕ} {r : Reading} → ReadInto bytes r t → r ≡ Reading.Read → Read start 0 bytes (read (sheet_in t))
-was_read i e = rw e at i.reads
-
-pub accepted_as : (bytes t inverses : List ℕ) {r : Accepted} → Read start 0 bytes (read (sheet_in t)) → Filled t
-    → SheetAs t inverses r
-    → AcceptedAs bytes t inverses r
-accepted_as bytes t inverses d f (SheetAs.right a i l) =
-    AcceptedAs.good (record { verdict = judged d a; filled = f; inverted = i; inverses_long = l })
-accepted_as bytes t inverses d f (SheetAs.faulty a) = AcceptedAs.refused (judged d a)
-
+-- what a question about an accepted sheet may rely on
 pub held_stored : {bytes t inverses : List ℕ} → Held bytes t inverses → Stored t inverses
 held_stored h =
     record {

@@ -1,5 +1,5 @@
--- What the lent tables hold once a sheet is accepted.
-use Rattle.std.specs.Prelude.{◌≡◌, List, ℕ, ◌≤◌, ◌<◌, length}
+-- What a table holds once a sheet is accepted.
+use Rattle.std.specs.Prelude.{◌≡◌, List, ℕ, ◌≤◌, ◌<◌, length, Result, Ok, Err}
 use Rattle.model.specs.Sheet.{Sheet, Verdict}
 use Rattle.model.specs.Accepting.{Accepting, Right}
 use Rattle.model.specs.Judging.{HasVerdict}
@@ -9,8 +9,8 @@ use Rattle.theory.specs.Judgement.{Sound}
 use Rattle.tables.specs.Layout.{skeleton_count, block, table_size}
 use Rattle.tables.specs.Tables.{byte, rows_in, sheet_in, Filled}
 use Rattle.keys.specs.Inverted.{Inverted}
+use Rattle.keys.specs.declared.Inverses.{Inverses}
 use Rattle.tables.specs.Drawn.{drawing, Drawn}
-use Rattle.accept.specs.declared.Accepted.{Accepted}
 
 -- every skeleton of the table is ready to be judged
 pub record AllDrawn (t : List ℕ) : Type 0 where
@@ -22,29 +22,24 @@ pub record AllDrawn (t : List ℕ) : Type 0 where
 pub record RightBelow (t : List ℕ) (n : ℕ) : Type 0 where
   pub at : (j : ℕ) → j < n → Right (drawing t (block j))
 
--- the sheet of the bytes is accepted, and lies in the tables
+-- the sheet of the bytes is accepted, and lies in the table, with its inverses
 pub record Held (bytes t inverses : List ℕ) : Type 0 where
   pub verdict : HasVerdict bytes (Verdict.accepted (sheet_in t))
   pub filled : Filled t
   pub inverted : Inverted (rows_in t) inverses
   pub inverses_long : length inverses ≡ 200
 
-pub data AcceptedAs (bytes t inverses : List ℕ) : Accepted → Type 0 where
-  refused : {r : Refusal} → HasVerdict bytes (Verdict.refused (refusal_of r)) → AcceptedAs bytes t inverses (Accepted.Refused r)
-  good : Held bytes t inverses → AcceptedAs bytes t inverses Accepted.Good
-
 -- the skeletons judged in turn
-pub data JudgedAll (s : Sheet) : Accepted → Type 0 where
-  right : Accepting s (Verdict.accepted s) → JudgedAll s Accepted.Good
-  faulty : {r : Refusal} → Accepting s (Verdict.refused (refusal_of r)) → JudgedAll s (Accepted.Refused r)
+abbrev pub JudgedAll : {A : Type 0} → Sheet → Result A Refusal → Type 0
+JudgedAll s (Ok x) = Accepting s (Verdict.accepted s)
+JudgedAll s (Err r) = Accepting s (Verdict.refused (refusal_of r))
 
 -- the sheet in the table judged, with the inverses where it is accepted
-pub data SheetAs (t inverses : List ℕ) : Accepted → Type 0 where
-  right : Accepting (sheet_in t) (Verdict.accepted (sheet_in t)) → Inverted (rows_in t) inverses → length inverses ≡ 200
-      → SheetAs t inverses Accepted.Good
-  faulty : {r : Refusal} → Accepting (sheet_in t) (Verdict.refused (refusal_of r)) → SheetAs t inverses (Accepted.Refused r)
+abbrev pub SheetAs : List ℕ → Result Inverses Refusal → Type 0
+SheetAs t (Ok inverses) = Accepting (sheet_in t) (Verdict.accepted (sheet_in t)) × Inverted (rows_in t) inverses.of
+SheetAs t (Err r) = Accepting (sheet_in t) (Verdict.refused (refusal_of r))
 
--- what a question about the sheet in the tables may rely on
+-- what a question about the sheet in the table may rely on
 pub record Stored (t inverses : List ℕ) : Type 0 where
   pub sound : Sound (sheet_in t)
   pub filled : Filled t

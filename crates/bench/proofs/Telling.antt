@@ -1,4 +1,5 @@
 -- What the steps have put is the report. Assumes nothing.
+use Rattle.std.specs.Prelude.{Result, Ok, Err}
 use mathlib.Core.Path.{◌≡◌, refl, ap, ◌∙◌, sym as back}
 use mathlib.Core.List.{List, [], ◌∷◌, ◌++◌, append_assoc, Memᴰ}
 use mathlib.Core.Option.{some}
@@ -9,10 +10,9 @@ use Rattle.model.specs.Skeleton.{means}
 use Rattle.model.specs.Sheet.{Sheet, Refusal, Verdict, Drawing, meant, HasSkeleton}
 use Rattle.model.specs.Judging.{HasVerdict, judged}
 use Rattle.model.specs.Maps.{TheMaps}
-use Rattle.model.specs.Says.{refusal_of, sheet_says, list_says}
+use Rattle.model.specs.Says.{refusal_of, counts_of, sheet_says, list_says}
 use Rattle.model.specs.declared.Refusal as Declared
-use Rattle.model.specs.declared.SheetAnswer.{SheetAnswer}
-use Rattle.model.specs.declared.ListAnswer.{ListAnswer}
+use Rattle.model.specs.declared.Counts.{Counts as CodeCounts}
 use Rattle.model.specs.Answers.{Answer, answered, refused, Asked, bad_sheet, no_such, too_short, said, Always, over, end_to_end, Gives, Counts, TheSheet, SaysCounts, AskSheet, Openness, SaysRealized, AskRealized, HasSkeletons, ListRoom, SaysList, AskList}
 use Rattle.model.specs.Lines.{sheet_line, maps_line}
 use Rattle.theory.specs.Encoding.{WithinLimits, read_encoded}
@@ -39,6 +39,11 @@ same_sheet {s} {t} h k = let e = verdict_one h k in let z : s ≡ t = cc in z
 not_both : {bytes : List ℕ} {s : Sheet} {r : Refusal} → HasVerdict bytes (Verdict.accepted s)
     → HasVerdict bytes (Verdict.refused r) → ⊥
 not_both h k = let e = verdict_one h k in let z : ◌≡◌ {A = ℕ} 0 1 = cc in omega arith
+
+-- an answer that is none is a refusal
+pub refused_then : {A : Type 0} (a : Result A Declared.Refusal) → ((x : A) → a ≡ Ok x → ⊥) → (r : Declared.Refusal) × (a ≡ Err r)
+refused_then (Ok x) f = absurd (f x refl)
+refused_then (Err r) f = (r, refl)
 
 -- How many strands
 
@@ -173,15 +178,15 @@ reports {c} g (AnswersSaid.two l a b t) =
 
 -- From the steps
 
-module _ {bytes lent : List ℕ} {a : ListAnswer} {space before : List ℕ} {at : ℕ} {after : List ℕ} {r : ℕ} where
-  pub list_refused : (q : Declared.Refusal) → a ≡ ListAnswer.Refused q → Gives bytes (AskList 0 1 lent) (list_says a) space
+module _ {bytes lent : List ℕ} {a : Result ℕ Declared.Refusal} {space before : List ℕ} {at : ℕ} {after : List ℕ} {r : ℕ} where
+  pub list_refused : (q : Declared.Refusal) → a ≡ Err q → Gives bytes (AskList 0 1 lent) (list_says a) space
       → Line 72 before at (maps_line 0 1 (list_says a)) after r
       → ListTold bytes lent before at after r
   unfolding list_says
   list_refused q e g l =
       record { text = maps_line 0 1 (refused (refusal_of q)); said = ListSaid.refusal (rw e at g); put = rw e at l.put }
 
-  pub list_listed : {mid : List ℕ} {next n : ℕ} (count : ℕ) → a ≡ ListAnswer.Maps count
+  pub list_listed : {mid : List ℕ} {next n : ℕ} (count : ℕ) → a ≡ Ok count
       → Gives bytes (AskList 0 1 lent) (list_says a) space
       → Line 72 before at (maps_line 0 1 (list_says a)) mid next
       → StrandsOf bytes n
@@ -195,8 +200,8 @@ module _ {bytes lent : List ℕ} {a : ListAnswer} {space before : List ℕ} {at 
         put = put_after (rw e at l.put) p;
       }
 
-pub maps_fit : {bytes : List ℕ} (lent : List ℕ) {a : ListAnswer} {n : ℕ} {space : List ℕ} (count : ℕ)
-    → a ≡ ListAnswer.Maps count
+pub maps_fit : {bytes : List ℕ} (lent : List ℕ) {a : Result ℕ Declared.Refusal} {n : ℕ} {space : List ℕ} (count : ℕ)
+    → a ≡ Ok count
     → Gives bytes (AskList 0 1 lent) (list_says a) space → SmallList a → StrandsOf bytes n → length lent ≡ 49152
     → (count * n ≤ 49152) × (count * (4 * n + 1) ≤ 243264)
 unfolding list_says
@@ -222,8 +227,8 @@ module _ {bytes lent : List ℕ} {skeletons : ℕ} {before : List ℕ} {at : ℕ
         put = put_after (put_after t.line.put u.line.put) l.put;
       }
 
-module _ {bytes lent : List ℕ} {a : SheetAnswer} {before after : List ℕ} {r : ℕ} where
-  pub reported_bad : (q : Declared.Refusal) → length lent ≡ 49152 → a ≡ SheetAnswer.Refused q
+module _ {bytes lent : List ℕ} {a : Result CodeCounts Declared.Refusal} {before after : List ℕ} {r : ℕ} where
+  pub reported_bad : (q : Declared.Refusal) → length lent ≡ 49152 → a ≡ Err q
       → Gives bytes AskSheet (sheet_says a) []
       → Line 72 before 0 (sheet_line (sheet_says a)) after r
       → Reported bytes lent before after r
@@ -231,16 +236,16 @@ module _ {bytes lent : List ℕ} {a : SheetAnswer} {before after : List ℕ} {r 
   reported_bad q n e g l =
       record { lends = n; text = sheet_line (refused (refusal_of q)); reports = Reports.bad (rw e at g); put = rw e at l.put }
 
-  pub reported_good : {mid : List ℕ} {next : ℕ} (terms skeletons : ℕ) → length lent ≡ 49152 → a ≡ SheetAnswer.Good terms skeletons
+  pub reported_good : {mid : List ℕ} {next : ℕ} (c : CodeCounts) → length lent ≡ 49152 → a ≡ Ok c
       → Gives bytes AskSheet (sheet_says a) []
       → Line 72 before 0 (sheet_line (sheet_says a)) mid next
-      → AnswersTold bytes lent skeletons mid next after r
+      → AnswersTold bytes lent c.skeletons mid next after r
       → Reported bytes lent before after r
-  unfolding sheet_says
-  reported_good terms skeletons n e g l t =
+  unfolding sheet_says counts_of
+  reported_good c n e g l t =
       record {
         lends = n;
-        text = sheet_line (answered (record { terms = terms; skeletons = skeletons })) ++ t.text;
+        text = sheet_line (answered (counts_of c)) ++ t.text;
         reports = reports (rw e at g) t.said;
         put = put_after (rw e at l.put) t.put;
       }

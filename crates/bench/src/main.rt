@@ -7,121 +7,99 @@ ghost use Rattle.lines.specs.Written.{Put, Line};
 ghost use Rattle.bench.specs.Report.{Reported};
 ghost use Rattle.bench.specs.Steps.{StrandsOf, lines_upto, SkeletonTold, ListTold, AnswersTold};
 
-use accept::{Accepted, BEFORE, INVERSES, accept};
+use accept::accept;
 use judge::{list, realized, sheet};
+use lines::page::{PAGE, Page};
 use lines::{map_line, maps_line, sheet_line, skeleton_line};
-use model::{ListAnswer, SheetAnswer};
 use std::io;
 use std::io::{Read, Write};
-use tables::TABLE;
-use tables::blocks::strands_in;
+use tables::blocks::{block_of, strands_in};
 
-// What the list is lent, and what the longest report needs: four lines of at most 72 bytes, and for each byte of the list
-// at most four and for each of at most 46,656 maps the end of its line.
+// What the list is lent.
 const SPACE: usize = 49152;
 
-const REPORT: usize = 243552;
+// How many bytes of the input decide.
+const INPUT: usize = 4096;
 
-// How many strands skeleton 0 has; 0 of a bad sheet.
+// How many strands skeleton 0 has; 0 of a bad sheet, of which no map is listed.
 fn strands(bytes: &[u8]) -> usize
     ensures { StrandsOf bytes.now result }
 {
-    let mut table = [0u8; TABLE];
-    let mut inverses = [0u8; INVERSES];
-    let mut before = [0u64; BEFORE];
-    let accepted = accept(bytes, &mut table, &mut inverses, &mut before);
-    match accepted {
-        Accepted::Refused(_) => 0,
-        Accepted::Good => strands_in(&table, 0),
+    match accept(bytes) {
+        Ok(sheet) => usize::from(strands_in(&sheet.table, block_of(0))),
+        Err(_) => 0,
     }
 }
 
 // The line of the map of n numbers that lies at `from`.
-fn put_map(space: &[u8], from: usize, n: usize, out: &mut [u8], at: usize) -> usize
-    requires { (from + n ≤ length space.now) × (at + 4 * n + 1 ≤ length out.old) }
-    ensures { Line (4 * n + 1)
-        out.old at (map_line (take n (drop from space.now))) out.new result }
+fn put_map(space: &[u8], from: usize, n: usize, page: &mut Page)
+    requires { (from + n ≤ length space.now) × (page.old.end + 4 * n + 1 ≤ 243552) }
+    ensures { Line (4 * n + 1) page.old.bytes page.old.end (map_line (take n (drop from space.now))) page.new.bytes page.new.end }
 {
-    let end = from + n;
-    map_line(&space[from..end], out, at)
+    map_line(&space[from..from + n], page);
 }
 
-// The lines of the maps, n numbers each, that lie end to end.
-fn put_maps(space: &[u8], count: usize, n: usize, out: &mut [u8], at: usize) -> usize
-    requires { (count * n ≤ length space.now) × (at + count * (4 * n + 1) ≤ length out.old) }
-    ensures { Put out.old at (lines_upto count n space.now) out.new result }
+// The lines of the maps, n numbers each, that lie end to end. Each is taken by its place: `chunks_exact` asks that n is not 0, which the
+// answer of the list question alone does not say.
+fn put_maps(space: &[u8], count: usize, n: usize, page: &mut Page)
+    requires { (count * n ≤ length space.now) × (page.old.end + count * (4 * n + 1) ≤ 243552)
+        × (page.old.end ≤ length page.old.bytes) }
+    ensures { Put page.old.bytes page.old.end (lines_upto count n space.now) page.new.bytes page.new.end }
 {
-    let mut next = at;
     for k in 0..count {
-        next = put_map(space, k * n, n, out, next);
+        put_map(space, k * n, n, page);
     }
-    next
 }
 
 // The maps from skeleton 0 to skeleton 1: how many there are, and a line for each of them.
-fn put_list(bytes: &[u8], space: &mut [u8], out: &mut [u8], at: usize) -> usize
-    requires { (length space.old ≡ 49152) × (at + 243336 ≤ length out.old) }
-    ensures { ListTold bytes.now space.old out.old at out.new result }
+fn put_list(bytes: &[u8], space: &mut [u8; SPACE], page: &mut Page)
+    requires { page.old.end + 243336 ≤ 243552 }
+    ensures { ListTold bytes.now space.old page.old.bytes page.old.end page.new.bytes page.new.end }
 {
     let answer = list(bytes, 0, 1, space);
-    let at = maps_line(0, 1, answer, out, at);
-    match answer {
-        ListAnswer::Refused(_) => at,
-        ListAnswer::Maps(count) => put_maps(space, count, strands(bytes), out, at),
-    }
+    maps_line(0, 1, answer, page);
+    let Ok(count) = answer else {
+        return;
+    };
+    put_maps(space, count, strands(bytes), page);
 }
 
 // Is skeleton k realized?
-fn put_skeleton(bytes: &[u8], k: u8, out: &mut [u8], at: usize) -> usize
-    requires { at + 72 ≤ length out.old }
-    ensures { SkeletonTold bytes.now k out.old at out.new result }
+fn put_skeleton(bytes: &[u8], k: u8, page: &mut Page)
+    requires { page.old.end + 72 ≤ 243552 }
+    ensures { SkeletonTold bytes.now k page.old.bytes page.old.end page.new.bytes page.new.end }
 {
-    skeleton_line(k, realized(bytes, k), out, at)
+    skeleton_line(k, realized(bytes, k), page);
 }
 
 // What is said of a good sheet with so many skeletons, after its first line.
-fn put_answers(bytes: &[u8], skeletons: usize, space: &mut [u8], out: &mut [u8], at: usize) -> usize
-    requires { (length space.old ≡ 49152) × (at + 243480 ≤ length out.old) }
-    ensures { AnswersTold bytes.now space.old skeletons
-        out.old at out.new result }
+fn put_answers(bytes: &[u8], skeletons: usize, space: &mut [u8; SPACE], page: &mut Page)
+    requires { page.old.end + 243480 ≤ 243552 }
+    ensures { AnswersTold bytes.now space.old skeletons page.old.bytes page.old.end page.new.bytes page.new.end }
 {
-    let at = put_skeleton(bytes, 0, out, at);
+    put_skeleton(bytes, 0, page);
     if skeletons < 2 {
-        return at;
+        return;
     }
-    let at = put_skeleton(bytes, 1, out, at);
-    put_list(bytes, space, out, at)
+    put_skeleton(bytes, 1, page);
+    put_list(bytes, space, page);
 }
 
 // All that is said of the sheet.
-fn report(bytes: &[u8], space: &mut [u8], out: &mut [u8]) -> usize
-    requires { (length space.old ≡ 49152) × (243552 ≤ length out.old) }
-    ensures { Reported bytes.now space.old out.old out.new result }
+fn report(bytes: &[u8], space: &mut [u8; SPACE], page: &mut Page)
+    requires { page.old.end ≡ 0 }
+    ensures { Reported bytes.now space.old page.old.bytes page.new.bytes page.new.end }
 {
     let answer = sheet(bytes);
-    let at = sheet_line(answer, out, 0);
-    match answer {
-        SheetAnswer::Refused(_) => at,
-        SheetAnswer::Good {
-            terms: _,
-            skeletons,
-        } => put_answers(bytes, skeletons, space, out, at),
-    }
+    sheet_line(answer, page);
+    let Ok(counts) = answer else {
+        return;
+    };
+    put_answers(bytes, counts.skeletons, space, page);
 }
 
-fn list_space() -> [u8; SPACE]
-    ensures { 49152 ≡ length result }
-{
-    [0; SPACE]
-}
-
-fn report_space() -> [u8; REPORT]
-    ensures { 243552 ≡ length result }
-{
-    [0; REPORT]
-}
-
-// Reads until the buffer is full, the input ends or a read fails, and says how many bytes were read.
+// Reads until the buffer is full, the input ends or a read fails, and says how many bytes were read. The loop stands here since
+// `read_exact` says nothing of an input that is shorter, and `read_to_end` takes the heap.
 fn read_full<R: Read>(reader: &mut R, bytes: &mut [u8]) -> usize
     ensures { result ≤ length bytes.new }
 {
@@ -137,10 +115,13 @@ fn read_full<R: Read>(reader: &mut R, bytes: &mut [u8]) -> usize
 
 // The first 4,096 bytes decide. A read that fails ends the sheet where it stands; a write that fails ends the program with its error.
 fn main(rt: HostRuntime) -> io::Result<()> {
-    let mut bytes = [0u8; 4096];
+    let mut bytes = [0; INPUT];
     let length = read_full(&mut rt.reader(), &mut bytes);
-    let mut space = list_space();
-    let mut out = report_space();
-    let end = report(&bytes[..length], &mut space, &mut out);
-    io::writer(&rt).write_all(&out[..end])
+    let mut space = [0; SPACE];
+    let mut page = Page {
+        bytes: [0; PAGE],
+        end: 0,
+    };
+    report(&bytes[..length], &mut space, &mut page);
+    io::writer(&rt).write_all(&page.bytes[..page.end])
 }

@@ -7,13 +7,14 @@ use mathlib.Core.Logic.{◌⊎◌, inl, inr, ⊎_elim}
 use Prim.Native.Nat.{ℕ, ◌+◌, ◌≤◌, ◌<◌}
 use native.Mathlib.Omega.{arith}
 use native.Mathlib.Decide.{ℕ_discrete}
-use lib.Dec.{T, eqb, leb, eqb→eq, eqb_refl}
+use lib.Dec.{T, eqb, eqb→eq, eqb_refl}
 use lib.ListN.{length}
 use Rattle.terms.specs.declared.TermSet.{TermSet}
-use Rattle.terms.specs.Set.{mem, member, Added}
+use Rattle.terms.specs.Set.{mem, Added}
 use Rattle.terms.proofs.Words.{member_none}
 use Rattle.model.specs.Carry.{Occurs, Carries}
-use Rattle.model.specs.Table.{Row, row, term}
+use Rattle.model.specs.Term.{Term}
+use Rattle.model.specs.Table.{Row, row, kind, first, second, term}
 use Rattle.tables.proofs.Look.{count_is, row_in}
 use Rattle.theory.specs.Tests.{both, pair_up, or_cases, or_left, or_right}
 use Rattle.theory.specs.Parts.{occurs_after}
@@ -21,8 +22,10 @@ use Rattle.theory.specs.GoodTable.{Good}
 use Rattle.theory.specs.Numbers.{number, number_term}
 use Rattle.theory.specs.OnSheet.{OnSheet}
 use Rattle.tables.specs.Tables.{byte, row_at, rows_in, Encoded, Filled}
+use Rattle.carry.specs.declared.Way.{Way}
 use Rattle.carry.specs.Next.{has_first, has_second, is_part, is_carried, parts_next}
-use Rattle.carry.specs.Sets.{Shows, EndsBy, InMember, IsParts, CarriedIn, IsCarried}
+use Rattle.carry.specs.Sets.{Visited, Shows, EndsBy, InMember, CarriedIn}
+use Rattle.carry.specs.Ways.{to_first, to_second, argument, Below}
 use Rattle.terms.proofs.Listed.{empty}
 use Rattle.carry.proofs.Shown.{is_T}
 use Rattle.carry.proofs.Rows.{inside_in}
@@ -34,6 +37,11 @@ pub record Closing (part : Row → ℕ → Bool) (P : ℕ → Type 0) (rows : Li
   pub only : (k : ℕ) → T (mem s k) → (k < length rows) × P k
   pub takes : (j : ℕ) → i ≤ j → j < length rows → T (mem start j) → T (mem s j)
   pub closed : (j k : ℕ) → i ≤ j → j < length rows → T (mem s j) → T (part (row rows j) k) → T (mem s k)
+
+-- what a way reaches from members of a set
+abbrev pub reached_on : Way → List Row → TermSet → Term → Type 0
+reached_on Way.Parts = InMember
+reached_on Way.Carried = CarriedIn
 
 -- members of the start have P, and P goes to the arguments with `part`, which come earlier
 pub record Descends (part : Row → ℕ → Bool) (P : ℕ → Type 0) (rows : List Row) (start : TermSet) : Type 0 where
@@ -120,101 +128,103 @@ module _ (part : Row → ℕ → Bool) (P : ℕ → Type 0) (rows : List Row) (s
         closed = λ m k l h. closed_next m k h (ℕ_discrete m j) l;
       }
 
--- All terms were visited
-module _ (rows : List Row) (good : Good rows) (start : TermSet) where
-  abbrev pub Part : ℕ → Type 0
-  Part k = InMember rows start (term rows k)
+-- All terms were visited, on one of the two ways down
+module _ (way : Way) (rows : List Row) (good : Good rows) (start : TermSet) where
+  -- what the way reaches
+  abbrev pub On : ℕ → Type 0
+  On k = reached_on way rows start (term rows k)
 
-  abbrev pub Carry : ℕ → Type 0
-  Carry k = CarriedIn rows start (term rows k)
-
-  parts_descend : Descends is_part Part rows start
-  parts_descend =
-      record {
-        begins = λ j l h. record { which = j; inside = l; member = (is_T (mem start j)).1 h; occurs = Occurs.here };
-        below = λ j k l h. (part_occurs rows good j k l (row rows j) refl h).below;
-        goes = λ j k l h m.
-            let p = part_occurs rows good j k l (row rows j) refl h in
-            record { which = m.which; inside = m.inside; member = m.member; occurs = occurs_after p.occurs m.occurs };
-      }
-
-  carried_descend : Descends is_carried Carry rows start
-  carried_descend =
-      record {
-        begins = λ j l h. record { which = j; inside = l; member = (is_T (mem start j)).1 h; carries = Carries.here };
-        below = λ j k l h. (part_carried rows good j k l (row rows j) refl h).below;
-        goes = λ j k l h m.
-            let p = part_carried rows good j k l (row rows j) refl h in
-            let c = carries_after p.carries m.carries in
-            record { which = m.which; inside = m.inside; member = m.member; carries = c };
-      }
+  descends : Descends (argument way) On rows start
+  descends = go way
+    where
+      go : (w : Way) → Descends (argument w) (λ k. reached_on w rows start (term rows k)) rows start
+      go Way.Parts =
+          record {
+            begins = λ j l h. record { which = j; inside = l; member = (is_T (mem start j)).1 h; occurs = Occurs.here };
+            below = λ j k l h. (part_occurs rows good j k l (row rows j) refl h).below;
+            goes = λ j k l h m.
+                let p = part_occurs rows good j k l (row rows j) refl h in
+                record { which = m.which; inside = m.inside; member = m.member; occurs = occurs_after p.occurs m.occurs };
+          }
+      go Way.Carried =
+          record {
+            begins = λ j l h. record { which = j; inside = l; member = (is_T (mem start j)).1 h; carries = Carries.here };
+            below = λ j k l h. (part_carried rows good j k l (row rows j) refl h).below;
+            goes = λ j k l h m.
+                let p = part_carried rows good j k l (row rows j) refl h in
+                let c = carries_after p.carries m.carries in
+                record { which = m.which; inside = m.inside; member = m.member; carries = c };
+          }
 
   -- a member is in the set, by the number of its term
-  there : {part : Row → ℕ → Bool} {P : ℕ → Type 0} {s : TermSet} → Closing part P rows start 0 s → (n : ℕ) → n < length rows
-      → mem start n ≡ true → T (mem s (number rows (term rows n)))
+  there : {s : TermSet} → Closing (argument way) On rows start 0 s → (n : ℕ) → n < length rows → mem start n ≡ true
+      → T (mem s (number rows (term rows n)))
   there done n h m = rw (number_term rows good n h) (done.takes n (omega arith) h ((is_T (mem start n)).0 m))
 
   on : (n : ℕ) → n < length rows → OnSheet rows (term rows n)
   on n h = record { which = n; inside = h; means = refl }
 
-  shown : {part : Row → ℕ → Bool} {P : ℕ → Type 0} {s : TermSet} → Closing part P rows start 0 s
-      → ((k : ℕ) → k < length rows → P k → T (mem s (number rows (term rows k)))) → Shows (length rows) P s
-  shown {s = s} done is_in =
+  -- the set has what the way reaches
+  has_reached : {s : TermSet} → Closing (argument way) On rows start 0 s → (k : ℕ) → On k → T (mem s (number rows (term rows k)))
+  has_reached {s} done k = go way refl
+    where
+      go : (w : Way) → w ≡ way → reached_on w rows start (term rows k) → T (mem s (number rows (term rows k)))
+      go Way.Parts e m =
+          has_occurring rows good s (λ j k l. rw (← e) at (done.closed j k (omega arith) l)) m.occurs (on m.which m.inside)
+          (there done m.which m.inside m.member)
+      go Way.Carried e m =
+          has_carried rows good s (λ j k l. rw (← e) at (done.closed j k (omega arith) l)) m.carries (on m.which m.inside)
+          (there done m.which m.inside m.member)
+
+  shown : {s : TermSet} → Closing (argument way) On rows start 0 s → Shows (length rows) On s
+  shown {s = s} done =
       record {
         at = λ k. (
           λ e. done.only k ((is_T (mem s k)).0 e),
-          λ w. (is_T (mem s k)).1 (rw (number_term rows good k w.0) at (is_in k w.0 w.1)),
+          λ w. (is_T (mem s k)).1 (rw (number_term rows good k w.0) at (has_reached done k w.1)),
         );
       }
 
-  pub parts_end : {s : TermSet} → Closing is_part Part rows start 0 s → IsParts rows start s
-  parts_end {s} done =
-      record {
-        shows = shown done (λ k h m. has_occurring rows good s (λ j k l. done.closed j k (omega arith) l) m.occurs
-            (on m.which m.inside) (there done m.which m.inside m.member));
-      }
-
-  pub carried_ends : {s : TermSet} → Closing is_carried Carry rows start 0 s → IsCarried rows start s
-  carried_ends {s} done =
-      record {
-        shows = shown done (λ k h m. has_carried rows good s (λ j k l. done.closed j k (omega arith) l) m.carries
-            (on m.which m.inside) (there done m.which m.inside m.member));
-      }
+  ends : {s : TermSet} → Closing (argument way) On rows start 0 s → Below way rows start s
+  ends {s} done = go way (shown done)
+    where
+      go : (w : Way) → Shows (length rows) (λ k. reached_on w rows start (term rows k)) s → Below w rows start s
+      go Way.Parts shows = record { shows = shows }
+      go Way.Carried shows = record { shows = shows }
 
 -- The same, of a table's bytes
-
-pub begins_at : {table : List ℕ} {part : Row → ℕ → Bool} {P : ℕ → Type 0} (start : TermSet) {top : ℕ} → Filled table
-    → EndsBy (byte table 600) top start → Closing part P (rows_in table) start top empty
-begins_at {table} {part} {P} start {top} filled ends =
-    closing_none part P (rows_in table) start top (rw (count_is table) ends)
 
 -- no term is as late as the count
 pub ends_last : (n : ℕ) (start : TermSet) → EndsBy n n start
 ends_last n start = record { none = λ k l h. absurd (omega arith) }
 
-module _ {table : List ℕ} {start : TermSet} {i : ℕ} (j : ℕ) {s : TermSet} (r : TermSet) (filled : Filled table)
-    (good : Good (rows_in table)) (falls : i ≡ j + 1) (below : j < byte table 600) where
-  pub parts_fall : Closing is_part (Part (rows_in table) good start) (rows_in table) start i s
-      → ((k : ℕ) → mem r k ≡ parts_next is_part (mem start) (mem s) j (row_at table j) k)
-      → Closing is_part (Part (rows_in table) good start) (rows_in table) start j r
-  parts_fall so_far made =
-      closing_falls is_part _ (rows_in table) start (parts_descend (rows_in table) good start) i j falls (inside_in table below)
-      s r so_far (rw (row_in table j below) made)
+-- what the set has once the terms from i on were visited
+abbrev pub Gone : Way → List ℕ → TermSet → ℕ → TermSet → Type 0
+Gone way table start =
+    Closing (argument way) (λ k. reached_on way (rows_in table) start (term (rows_in table) k)) (rows_in table) start
 
-  pub carried_falls : Closing is_carried (Carry (rows_in table) good start) (rows_in table) start i s
-      → ((k : ℕ) → mem r k ≡ parts_next is_carried (mem start) (mem s) j (row_at table j) k)
-      → Closing is_carried (Carry (rows_in table) good start) (rows_in table) start j r
-  carried_falls so_far made =
-      closing_falls is_carried _ (rows_in table) start (carried_descend (rows_in table) good start) i j falls
-      (inside_in table below) s r so_far (rw (row_in table j below) made)
+module _ (way : Way) {table : List ℕ} (start : TermSet) (filled : Filled table) (good : Good (rows_in table)) where
+  pub gone_none : {top : ℕ} → EndsBy (byte table 600) top start → Gone way table start top empty
+  gone_none {top} ends = closing_none (argument way) _ (rows_in table) start top (rw (count_is table) ends)
+
+  pub gone_on : {i : ℕ} (j : ℕ) {s : TermSet} (r : TermSet) → i ≡ j + 1 → j < byte table 600
+      → Gone way table start i s
+      → Visited (argument way) start j (row_at table j) s r
+      → Gone way table start j r
+  gone_on {i} j {s} r falls below so_far visited =
+      closing_falls (argument way) _ (rows_in table) start (descends way (rows_in table) good start) i j falls
+      (inside_in table below) s r so_far (rw (row_in table j below) visited.at)
+
+  pub gone_all : {s : TermSet} → Gone way table start 0 s → Below way (rows_in table) start s
+  gone_all = ends way (rows_in table) good start
 
 -- One visit of a term by its bytes
 
 -- where the term is not found, nothing is added
-pub parts_kept : (part : Row → ℕ → Bool) (start s : List ℕ) (i : ℕ) (q : Row) → (member start i || member s i) ≡ false
-    → (k : ℕ) → member s k ≡ parts_next part (member start) (member s) i q k
+pub visit_none : (part : Row → ℕ → Bool) (start s : TermSet) (i : ℕ) (q : Row) → (mem start i || mem s i) ≡ false
+    → Visited part start i q s s
 unfolding parts_next
-parts_kept part start s i q off k = rw off (sym (or-false (member s k)))
+visit_none part start s i q off = record { at = λ k. rw off (sym (or-false (mem s k))) }
 
 -- three additions are one
 spread : (known same one two : Bool) → (((known || same) || one) || two) ≡ (known || (same || (one || two)))
@@ -222,23 +232,23 @@ spread true same one two = refl
 spread false true one two = refl
 spread false false one two = refl
 
--- the arguments with `part` are the first, where `one` says so, and the second, where `two` does
-module _ {table : List ℕ} {i : ℕ} (start : List ℕ) {s x : List ℕ} (e : Encoded table i)
-    (found : (member start i || member s i) ≡ true) (itself : Added i true s x) where
-  pub parts_in : {y z : List ℕ} → Added (byte table (200 + i)) (leb 7 (byte table i)) x y
-      → Added (byte table (400 + i)) (leb 9 (byte table i) && leb (byte table i) 11) y z
-      → (k : ℕ) → member z k ≡ parts_next is_part (member start) (member s) i (row_at table i) k
-  unfolding parts_next is_part has_first has_second
-  parts_in one two k =
-      rw (two.at k, one.at k, itself.at k, found, e.kind_is, e.first_is, e.second_is)
-      (spread (member s k) (eqb k i) (leb 7 (byte table i) && eqb k (byte table (200 + i)))
-      ((leb 9 (byte table i) && leb (byte table i) 11) && eqb k (byte table (400 + i))))
+-- the arguments on a way are the first, where it goes to it, and the second
+argument_is : (way : Way) (q : Row) (k : ℕ)
+    → argument way q k ≡ (to_first way (kind q) && eqb k (first q) || to_second way (kind q) && eqb k (second q))
+unfolding is_part is_carried has_first has_second
+argument_is Way.Parts q k = refl
+argument_is Way.Carried q k = refl
 
-  pub carried_in : {y z : List ℕ} → Added (byte table (200 + i)) (eqb (byte table i) 10 || eqb (byte table i) 11) x y
-      → Added (byte table (400 + i)) (eqb (byte table i) 10) y z
-      → (k : ℕ) → member z k ≡ parts_next is_carried (member start) (member s) i (row_at table i) k
-  unfolding parts_next is_carried
-  carried_in one two k =
-      rw (two.at k, one.at k, itself.at k, found, e.kind_is, e.first_is, e.second_is)
-      (spread (member s k) (eqb k i) ((eqb (byte table i) 10 || eqb (byte table i) 11) && eqb k (byte table (200 + i)))
-      (eqb (byte table i) 10 && eqb k (byte table (400 + i))))
+pub visit_adds : (way : Way) {table : List ℕ} {i : ℕ} (start : TermSet) {s x y z : TermSet} → Encoded table i
+    → (mem start i || mem s i) ≡ true
+    → Added i true s.words x.words
+    → Added (byte table (200 + i)) (to_first way (byte table i)) x.words y.words
+    → Added (byte table (400 + i)) (to_second way (byte table i)) y.words z.words
+    → Visited (argument way) start i (row_at table i) s z
+unfolding parts_next
+visit_adds way {table} {i} start {s} e found itself one two =
+    record {
+      at = λ k. rw (argument_is way (row_at table i) k, two.at k, one.at k, itself.at k, found, e.kind_is, e.first_is, e.second_is)
+          (spread (mem s k) (eqb k i) (to_first way (byte table i) && eqb k (byte table (200 + i)))
+          (to_second way (byte table i) && eqb k (byte table (400 + i))));
+    }

@@ -4,11 +4,11 @@ use mathlib.Core.Bool.{Bool, true, false, ◌||◌, ◌&&◌, or-false, and-true
 use mathlib.Core.Logic.{◌↔◌}
 use Prim.Native.Nat.{ℕ, ◌+◌, ◌<◌}
 use native.Mathlib.Omega.{arith}
-use native.Mathlib.Decide.{ℕ_discrete}
+use native.Mathlib.Decide.{ℕ_discrete, dec_lt}
 use lib.Dec.{T, eqb}
 use borrow.Author.Tests.{eq-eqb, ne_eqb}
 use Rattle.terms.specs.declared.TermSet.{TermSet}
-use Rattle.terms.specs.Set.{mem}
+use Rattle.terms.specs.Set.{mem, HasThose}
 use Rattle.terms.proofs.Words.{member_none}
 use Rattle.terms.proofs.Listed.{empty}
 use Rattle.theory.specs.Tests.{bool_false}
@@ -36,6 +36,16 @@ module _ {P : ℕ → Type 0} {i : ℕ} {s : TermSet} (shows : Shows i P s) wher
       go k (no n) =
           let m : mem r k ≡ mem s k = made k ∙ rw (ne_eqb k i n, and-false b) (or-false (mem s k)) in
           rw m (λ q. let w = (shows.at k).0 q in (omega (arith, w.0), w.1), λ w. (shows.at k).1 (omega (arith, w.0), w.1))
+
+-- what passes a test that decides P
+pub shows_those : {n : ℕ} {Answers : ℕ → Bool → Type 0} {P : ℕ → Type 0} {s : TermSet}
+    → ((k : ℕ) → k < n → (b : Bool) → Answers k b → (b ≡ true) ↔ P k) → HasThose n Answers s → Shows n P s
+shows_those {n} {Answers} {P} {s} decides those =
+    record { at = λ k. (λ e. inside k e (dec_lt k n), λ w. (decides k w.0 (mem s k) (those.at k w.0)).1 w.1) }
+  where
+    inside : (k : ℕ) → mem s k ≡ true → Dec (k < n) → (k < n) × P k
+    inside k e (yes l) = (l, (decides k l (mem s k) (those.at k l)).0 e)
+    inside k e (no f) = absurd (true≢false (sym e ∙ those.past k (omega arith)))
 
 pub shows_same : {n : ℕ} {P Q : ℕ → Type 0} {s : TermSet} → ((k : ℕ) → k < n → P k ↔ Q k) → Shows n P s → Shows n Q s
 shows_same f shows =

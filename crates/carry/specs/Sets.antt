@@ -2,7 +2,7 @@
 use Rattle.std.specs.Prelude.{◌≡◌, Bool, true, false, ◌↔◌, ℕ, ◌≤◌, ◌<◌, length}
 use mathlib.Core.List.{List, Memᴰ}
 use Rattle.terms.specs.declared.TermSet.{TermSet}
-use Rattle.terms.specs.Set.{mem, member}
+use Rattle.terms.specs.Set.{mem}
 use Rattle.model.specs.Term.{Term}
 use Rattle.model.specs.Carry.{Carries, Occurs, OnlyWithin}
 use Rattle.model.specs.Subst.{Variable}
@@ -12,14 +12,9 @@ use Rattle.theory.specs.Within.{Loose}
 use Rattle.theory.specs.Carrying.{Marked}
 use Rattle.carry.specs.Next.{parts_next}
 
--- the set of these words
-abbrev pub of : List ℕ → TermSet
-of words = record { words = words }
-
--- the words r have what s have, and what a visit of the term t, whose row is q, adds
-pub record Visited (part : Row → ℕ → Bool) (start : List ℕ) (t : ℕ) (q : Row) (s r : List ℕ) : Type 0 where
-  pub at : (k : ℕ) → member r k ≡ parts_next part (member start) (member s) t q k
-  pub long : length r ≡ 4
+-- the set r has what s has, and what a visit of the term t, whose row is q, adds
+pub record Visited (part : Row → ℕ → Bool) (start : TermSet) (t : ℕ) (q : Row) (s r : TermSet) : Type 0 where
+  pub at : (k : ℕ) → mem r k ≡ parts_next part (mem start) (mem s) t q k
 
 -- of the numbers below n, the set has those with P
 pub record Shows (n : ℕ) (P : ℕ → Type 0) (s : TermSet) : Type 0 where

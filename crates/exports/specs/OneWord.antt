@@ -3,11 +3,11 @@ use Rattle.std.specs.Prelude.{◌≡◌, Bool, List, ℕ, ◌≤◌}
 use Rattle.std.proofs.Common.{ap, ◌∙◌, sym as back, arith}
 use Rattle.model.specs.Skeleton.{Node}
 use Rattle.model.specs.Sheet.{Refusal, Verdict}
-use Rattle.model.specs.Answers.{Answer, Gives, Counts, Openness, Mapping, AskSheet, AskWithin, AskDerivable, AskReach, AskRealized, AskMap, AskList}
+use Rattle.model.specs.Answers.{Answer, Gives, Counts, Openness, realized, open_at, Mapping, is_map, breaks, AskSheet, AskWithin, AskDerivable, AskReach, AskRealized, AskMap, AskList}
 use Rattle.theory.specs.NoSecond.{Same}
 use Rattle.theory.proofs.Pinned.{ExactlyOne, pinned}
-use Rattle.theory.proofs.Sizes.{LowRefusal, LowAnswer, low_refusal, low_answer, LowCounts, sheet_low, Any, within_low, derivable_low, reach_low, LowOpenness, low_realized, low_open, realized_low, LowMapping, low_map, low_rule, map_low, list_low}
-use Rattle.exports.specs.Words.{sheet_word, yes_no_word, count_word, realized_word, map_word, FitsRefusal, FitsSheet, FitsYesNo, FitsCount, FitsRealized, FitsMap, sheet_word_one, yes_no_word_one, count_word_one, realized_word_one, map_word_one}
+use Rattle.theory.proofs.Sizes.{LowRefusal, LowAnswer, low_refusal, low_answer, LowCounts, sheet_low, Any, within_low, derivable_low, reach_low, LowOpenness, low_open, realized_low, LowMapping, low_rule, map_low, list_low}
+use Rattle.exports.specs.Words.{sheet_word, yes_no_word, count_word, realized_word, map_word, FitsRefusal, Fits, FitsOpenness, FitsMapping, FitsSheet, FitsYesNo, FitsCount, FitsRealized, FitsMap, sheet_word_one, yes_no_word_one, count_word_one, realized_word_one, map_word_one}
 use Rattle.exports.specs.Said.{SaidAs}
 
 -- ONE WORD for what is asked of some bytes
@@ -51,32 +51,39 @@ refusal_fits : {r : Refusal} → LowRefusal r → FitsRefusal r
 unfolding FitsRefusal
 refusal_fits l = (omega (arith, l.number), omega (arith, l.skeleton))
 
+answer_fits : {A : Type 0} (FitsValue : A → Type 0) {Low : A → Type 0} {a : Answer A} → ((x : A) → Low x → FitsValue x)
+    → LowAnswer Low a
+    → Fits FitsValue a
+answer_fits FitsValue fits (low_refusal l) = refusal_fits l
+answer_fits FitsValue fits (low_answer {a = x} l) = fits x l
+
 sheet_fits : {a : Answer Counts} → LowAnswer LowCounts a → FitsSheet a
 unfolding FitsSheet
-sheet_fits (low_refusal l) = refusal_fits l
-sheet_fits (low_answer l) = omega (arith, l.skeletons)
+sheet_fits l = answer_fits _ (λ c k. omega (arith, k.skeletons)) l
 
 yes_no_fits : {a : Answer Bool} → LowAnswer Any a → FitsYesNo a
 unfolding FitsYesNo
-yes_no_fits (low_refusal l) = refusal_fits l
-yes_no_fits (low_answer l) = tt
+yes_no_fits l = answer_fits _ (λ so k. tt) l
 
 count_fits : (most : ℕ) {a : Answer ℕ} → LowAnswer (λ n. n ≤ most) a → FitsCount a
 unfolding FitsCount
-count_fits most (low_refusal l) = refusal_fits l
-count_fits most (low_answer l) = tt
+count_fits most l = answer_fits _ (λ n k. tt) l
+
+openness_fits : (o : Openness) → LowOpenness o → FitsOpenness o
+openness_fits realized l = tt
+openness_fits (open_at n) (low_open l) = (omega (arith, l.strand), omega (arith, l.position))
 
 realized_fits : {a : Answer Openness} → LowAnswer LowOpenness a → FitsRealized a
 unfolding FitsRealized
-realized_fits (low_refusal l) = refusal_fits l
-realized_fits (low_answer low_realized) = tt
-realized_fits (low_answer (low_open l)) = (omega (arith, l.strand), omega (arith, l.position))
+realized_fits l = answer_fits FitsOpenness openness_fits l
+
+mapping_fits : (o : Mapping) → LowMapping o → FitsMapping o
+mapping_fits is_map l = tt
+mapping_fits (breaks k) (low_rule h l) = omega arith
 
 map_fits : {a : Answer Mapping} → LowAnswer LowMapping a → FitsMap a
 unfolding FitsMap
-map_fits (low_refusal l) = refusal_fits l
-map_fits (low_answer low_map) = tt
-map_fits (low_answer (low_rule h l)) = omega arith
+map_fits l = answer_fits FitsMapping mapping_fits l
 
 abbrev Fitting : List ℕ → {A : Type 0} → (Verdict → Answer A → List ℕ → Type 0) → (Answer A → Type 0) → Type 0
 Fitting bytes {A} Question Fits = (a : Answer A) (l : List ℕ) → Gives bytes Question a l → Fits a

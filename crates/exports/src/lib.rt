@@ -1,4 +1,5 @@
-// The questions for C and Rust: each answer is one word. What the words say is in specs/Words.antt.
+// The questions for C and Rust: each answer is one word. What the words say is in specs/Words.antt. The names, the parameters
+// and the words are the C interface, include/judge.h: a node is two bytes there, and what is lent is a slice.
 #![tactic(auto)]
 
 ghost use Rattle.std.specs.Prelude.{◌≡◌, [], ◌≤◌, ◌<◌};
@@ -9,46 +10,44 @@ ghost use Rattle.exports.specs.Words.{word, refusal_word, sheet_word, yes_no_wor
 ghost use Rattle.exports.specs.Said.{SaidAs, node_at};
 
 use judge::{derivable, list, map, reach, realized, sheet, within};
-use model::{ListAnswer, MapAnswer, ReachAnswer, RealizedAnswer, Refusal, SheetAnswer, YesNo};
+use model::{Answer, Refusal};
 use terms::{Node, Strand, Term};
 
-// The word of four parts, which fit their places.
+// The word of four parts, which fit their places. A usize has no `From` into a word.
 fn word_of(tag: u8, x: u8, y: u8, z: usize) -> u64
     requires { z < 4294967296 }
     ensures { result ≡ word tag x y z }
 {
-    (tag as u64) + 256 * (x as u64) + 65536 * (y as u64) + 4294967296 * (z as u64)
+    u64::from(tag) + 256 * u64::from(x) + 65536 * u64::from(y) + 4294967296 * (z as u64)
 }
 
 fn refusal_word_of(r: Refusal) -> u64
     requires { SmallRefusal r }
     ensures { result ≡ refusal_word (refusal_of r) }
 {
-    word_of(0, r.number, r.skeleton, r.place)
+    word_of(0, u8::from(r.reason), r.skeleton, r.place)
 }
 
-// 1, x skeletons, z terms.
+// 1, x skeletons, z terms. Of skeletons there are at most two, so `as` loses nothing.
 #[unsafe(no_mangle)]
 pub extern "C" fn judge_sheet(bytes: &[u8]) -> u64
     ensures { SaidAs bytes.now AskSheet sheet_word [] result }
 {
-    let answer = sheet(bytes);
-    match answer {
-        SheetAnswer::Good { terms, skeletons } => word_of(1, (skeletons % 256) as u8, 0, terms),
-        SheetAnswer::Refused(r) => refusal_word_of(r),
-    }
+    sheet(bytes).map_or_else(
+        refusal_word_of,
+        |counts| word_of(1, counts.skeletons as u8, 0, counts.terms),
+    )
 }
 
 // The word of yes, of no and of a refusal.
-fn yes_no_word_of(answer: YesNo) -> u64
+fn yes_no_word_of(answer: Answer<bool>) -> u64
     requires { SmallYesNo answer }
     ensures { result ≡ yes_no_word (yes_no_says answer) }
 {
-    match answer {
-        YesNo::Yes => word_of(1, 0, 0, 0),
-        YesNo::No => word_of(2, 0, 0, 0),
-        YesNo::Refused(r) => refusal_word_of(r),
-    }
+    answer.map_or_else(
+        refusal_word_of,
+        |so| word_of(if so { 1 } else { 2 }, 0, 0, 0),
+    )
 }
 
 // 1 yes, 2 no.
@@ -86,11 +85,7 @@ pub extern "C" fn judge_reach(bytes: &[u8], skeleton: u8, strand: u8, position: 
         strand: Strand(strand),
         position,
     };
-    let answer = reach(bytes, skeleton, node);
-    match answer {
-        ReachAnswer::Reach(count) => word_of(1, 0, 0, count),
-        ReachAnswer::Refused(r) => refusal_word_of(r),
-    }
+    reach(bytes, skeleton, node).map_or_else(refusal_word_of, |count| word_of(1, 0, 0, count))
 }
 
 // 1 yes; 2 open, x strand, y position.
@@ -98,12 +93,10 @@ pub extern "C" fn judge_reach(bytes: &[u8], skeleton: u8, strand: u8, position: 
 pub extern "C" fn judge_realized(bytes: &[u8], skeleton: u8) -> u64
     ensures { SaidAs bytes.now (AskRealized skeleton) realized_word [] result }
 {
-    let answer = realized(bytes, skeleton);
-    match answer {
-        RealizedAnswer::Realized => word_of(1, 0, 0, 0),
-        RealizedAnswer::Open(n) => word_of(2, n.strand.0, n.position, 0),
-        RealizedAnswer::Refused(r) => refusal_word_of(r),
-    }
+    realized(bytes, skeleton).map_or_else(refusal_word_of, |first| match first {
+        None => word_of(1, 0, 0, 0),
+        Some(n) => word_of(2, n.strand.0, n.position, 0),
+    })
 }
 
 // 1 yes; 2 no, x the broken rule.
@@ -117,12 +110,13 @@ pub extern "C" fn judge_map(
 ) -> u64
     ensures { SaidAs bytes.now (AskMap source target strands.now images.old) map_word images.new result }
 {
-    let answer = map(bytes, source, target, strands, images);
-    match answer {
-        MapAnswer::Yes => word_of(1, 0, 0, 0),
-        MapAnswer::Broken(rule) => word_of(2, rule, 0, 0),
-        MapAnswer::Refused(r) => refusal_word_of(r),
-    }
+    map(bytes, source, target, strands, images).map_or_else(
+        refusal_word_of,
+        |broken| match broken {
+            None => word_of(1, 0, 0, 0),
+            Some(rule) => word_of(2, u8::from(rule), 0, 0),
+        },
+    )
 }
 
 // 1, z the count.
@@ -130,9 +124,5 @@ pub extern "C" fn judge_map(
 pub extern "C" fn judge_list(bytes: &[u8], source: u8, target: u8, space: &mut [u8]) -> u64
     ensures { SaidAs bytes.now (AskList source target space.old) count_word space.new result }
 {
-    let answer = list(bytes, source, target, space);
-    match answer {
-        ListAnswer::Maps(count) => word_of(1, 0, 0, count),
-        ListAnswer::Refused(r) => refusal_word_of(r),
-    }
+    list(bytes, source, target, space).map_or_else(refusal_word_of, |count| word_of(1, 0, 0, count))
 }

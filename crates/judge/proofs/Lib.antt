@@ -1,2 +1,2 @@
--- From an accepted sheet in its tables to the answers.
+-- From an accepted sheet in its table to the answers.
 pub mod Answered

@@ -24,8 +24,3 @@ unfoldable pub told_line : ℕ → Answer Openness → List ℕ
 unfolding skeleton_line
 told_line k (answered o) = skeleton_line k o
 told_line k (refused r) = []
-
--- what stands before the number at place i of a map
-unfoldable pub gap : ℕ → List ℕ
-gap zero = []
-gap (suc i) = 32 ∷ []

@@ -1,17 +1,19 @@
 -- The candidates that pass, written end to end: how long they are, and one more of them. Assumes nothing.
 use mathlib.Core.Path.{◌≡◌, refl, sym, ap, ap₂, ◌∙◌}
-use mathlib.Core.Bool.{Bool, true, false, cond}
-use mathlib.Core.List.{List, [], ◌∷◌, ◌++◌, append_assoc, append-nil}
-use Prim.Native.Nat.{ℕ, zero, suc, ◌+◌, ◌*◌, ◌≤◌, ◌<◌}
-use native.Mathlib.Nat.{zero-mul, one-mul, add-mul, mul-le-mul_right, le_trans}
-use native.Mathlib.Numerals.{add-one}
+use mathlib.Core.Bool.{Bool}
+use mathlib.Core.List.{List, [], ◌∷◌, ◌++◌, map, append_assoc, append-nil}
+use Prim.Native.Nat.{ℕ, suc, ◌+◌, ◌-◌, ◌*◌, ◌≤◌, ◌<◌}
+use native.Mathlib.Nat.{zero-mul, mul-le-mul_right, suc-mul, add_comm}
 use native.Mathlib.Omega.{arith}
-use lib.ListN.{length, take, drop, length-append, length-drop}
-use lib.Seq.{take_at, drop_at, drop-drop}
+use lib.ListN.{length, get_or, take, drop, length-append, length-drop}
+use lib.Seq.{take_at, drop_at, drop-drop, take-suc}
+use Rattle.std.proofs.lemmas.List.{map-append, length-take-le, take_all, take_rest, drop_all}
+use native.Mathlib.Numerals.{add-one}
+use borrow.Rule.Slice.PartMut.{put_mid}
 use Rattle.model.specs.Answers.{over, end_to_end}
 use Rattle.list.specs.Candidates.{digits, passing}
 use Rattle.list.proofs.Numbered.{digits_length}
-use Rattle.list.proofs.Counted.{passing_count, count_below}
+use Rattle.list.proofs.Filtered.{numbers, passing_numbers, passing_many}
 
 end_append : (ms ks : List (List ℕ)) → end_to_end (ms ++ ks) ≡ end_to_end ms ++ end_to_end ks
 unfolding end_to_end
@@ -27,99 +29,101 @@ over_long : (w lent : List ℕ) → length w ≤ length lent → length (over w 
 unfolding over
 over_long w lent h = length-append w (drop (length w) lent) ∙ rw (length-drop (length w) lent) (omega arith)
 
-module _ (n base : ℕ) (test : ℕ → Bool) where
-  -- the candidates below c that pass, end to end
-  abbrev so_far : ℕ → List ℕ
-  so_far c = end_to_end (passing n base test c)
-
-  far_in : (c : ℕ) → test c ≡ true → so_far (c + 1) ≡ so_far c ++ digits n base c
-  unfolding passing
-  far_in c e =
-      rw (add-one c, e)
-      (end_append (passing n base test c) (digits n base c ∷ [])
-      ∙ ap (λ (l : List ℕ). so_far c ++ l) (end_one (digits n base c)))
-
-  far_out : (c : ℕ) → test c ≡ false → so_far (c + 1) ≡ so_far c
-  unfolding passing
-  far_out c e = rw (add-one c, e, append-nil)
-
-  far_none : so_far 0 ≡ []
-  unfolding passing end_to_end
-  far_none = refl
-
-  one_long : (b : Bool) (c : ℕ)
-      → length (end_to_end (cond b (digits n base c ∷ []) [])) ≡ length (cond b (digits n base c ∷ []) []) * n
-  unfolding end_to_end
-  one_long true c = ap length (append-nil (digits n base c)) ∙ digits_length n base c ∙ sym (one-mul n)
-  one_long false c = sym (zero-mul n)
-
+module _ (n base : ℕ) where
   -- n bytes for each
-  pub end_to_end_long : (c : ℕ) → length (end_to_end (passing n base test c)) ≡ length (passing n base test c) * n
-  unfolding passing end_to_end
-  end_to_end_long zero = sym (zero-mul n)
-  end_to_end_long (suc c) =
-      let before : List (List ℕ) = passing n base test c in
-      let now : List (List ℕ) = cond (test c) (digits n base c ∷ []) [] in
-      ap length (end_append before now) ∙ length-append (end_to_end before) (end_to_end now)
-      ∙ ap₂ (λ (x y : ℕ). x + y) (end_to_end_long c) (one_long (test c) c)
-      ∙ sym (ap (λ (x : ℕ). x * n) (length-append before now) ∙ add-mul (length before) (length now) n)
+  digits_long : (l : List ℕ) → length (end_to_end (map (digits n base) l)) ≡ length l * n
+  unfolding end_to_end
+  digits_long [] = sym (zero-mul n)
+  digits_long (c ∷ l) =
+      length-append (digits n base c) (end_to_end (map (digits n base) l))
+      ∙ ap₂ (λ (x y : ℕ). x + y) (digits_length n base c) (digits_long l)
+      ∙ sym (suc-mul (length l) n ∙ add_comm (length l * n) n)
 
-  module _ (lent : List ℕ) (total : ℕ) where
-    short : length (passing n base test total) * n ≤ length lent → (c : ℕ) → c ≤ total → length (so_far c) ≤ length lent
-    short fits c l =
-        let fewer : length (passing n base test c) ≤ length (passing n base test total) =
-        rw (passing_count n base test c, passing_count n base test total) (count_below test c total l) in
-        rw (end_to_end_long c) (le_trans (mul-le-mul_right n fewer) fits)
+  module _ (test : ℕ → Bool) (lent : List ℕ) (total : ℕ) where
+    abbrev passed : List ℕ
+    passed = numbers test total
 
-    -- what passes below c is written, up to the place
-    pub record Wrote (space : List ℕ) (place c : ℕ) : Type 0 where
-      pub fits : length (passing n base test total) * n ≤ length lent
-      pub most : c ≤ total
-      pub long : length (so_far c) ≡ place
-      pub is : space ≡ over (so_far c) lent
+    -- the first i that pass, end to end
+    abbrev so_far : ℕ → List ℕ
+    so_far i = end_to_end (map (digits n base) (take i passed))
 
-    pub wrote_long : {space : List ℕ} {place c : ℕ} → Wrote space place c → length space ≡ length lent
-    wrote_long {space} {place} {c} w = ap length w.is ∙ over_long (so_far c) lent (short w.fits c w.most)
+    -- the first i that pass are written
+    pub record Wrote (space : List ℕ) (i : ℕ) : Type 0 where
+      pub fits : length passed * n ≤ length lent
+      pub most : i ≤ length passed
+      pub is : space ≡ over (so_far i) lent
 
-    pub wrote_none : length (passing n base test total) * n ≤ length lent → Wrote lent 0 0
+    long : (i : ℕ) → i ≤ length passed → length (so_far i) ≡ i * n
+    long i h = digits_long (take i passed) ∙ ap (λ (k : ℕ). k * n) (length-take-le i passed h)
+
+    far_none : so_far 0 ≡ []
+    unfolding end_to_end
+    far_none = refl
+
+    far_more : (i c : ℕ) → i < length passed → c ≡ get_or passed i c → so_far (i + 1) ≡ so_far i ++ digits n base c
+    far_more i c h is =
+        ap (λ (l : List ℕ). end_to_end (map (digits n base) l)) (rw add-one (take-suc passed i c h))
+        ∙ ap end_to_end (map-append (digits n base) (take i passed) (get_or passed i c ∷ []))
+        ∙ end_append (map (digits n base) (take i passed)) (digits n base (get_or passed i c) ∷ [])
+        ∙ ap (λ (l : List ℕ). so_far i ++ l) (end_one (digits n base (get_or passed i c)) ∙ sym (ap (digits n base) is))
+
+    pub wrote_none : length (passing n base test total) * n ≤ length lent → Wrote lent 0
     unfolding over
-    wrote_none fits = record { fits = fits; most = omega arith; long = rw far_none; is = rw far_none }
+    wrote_none fits = record { fits = rw (passing_many test n base total) at fits; most = omega arith; is = rw far_none }
 
-    module _ {space : List ℕ} {place c : ℕ} (w : Wrote space place c) (l : c < total) where
-      pub wrote_out : test c ≡ false → Wrote space place (c + 1)
-      wrote_out e =
-          record { fits = w.fits; most = omega arith; long = rw (far_out c e) w.long; is = rw (far_out c e) w.is }
+    module _ {space : List ℕ} {i : ℕ} (w : Wrote space i) where
+      pub room : i < length passed → i * n + n ≤ length lent
+      room h =
+          let m : suc i * n ≤ length passed * n = mul-le-mul_right n h in
+          omega (arith, suc-mul i n, w.fits)
 
-      module _ (e : test c ≡ true) where
-        long_in : length (so_far (c + 1)) ≡ place + n
-        long_in =
-            ap length (far_in c e) ∙ length-append (so_far c) (digits n base c)
-            ∙ ap₂ (λ (x y : ℕ). x + y) w.long (digits_length n base c)
+      pub wrote_long : length space ≡ length lent
+      wrote_long =
+          let m : i * n ≤ length passed * n = mul-le-mul_right n w.most in
+          ap length w.is ∙ over_long (so_far i) lent (omega (arith, long i w.most, w.fits))
 
-        pub room : place + n ≤ length lent
-        room = rw long_in at (short w.fits (c + 1) (omega arith))
+      pub wrote_all : i ≡ length passed → space ≡ over (end_to_end (passing n base test total)) lent
+      wrote_all e =
+          let all : take i passed ≡ passed = take_all i passed (omega arith) in
+          w.is ∙ ap (λ (l : List ℕ). over (end_to_end (map (digits n base) l)) lent) all
+          ∙ ap (λ (l : List (List ℕ)). over (end_to_end l) lent) (sym (passing_numbers test n base total))
 
-        split : space ≡ so_far c ++ drop place lent
+      module _ (h : i < length passed) where
+        far_long : length (so_far i) ≡ i * n
+        far_long = long i w.most
+
+        split : space ≡ so_far i ++ drop (i * n) lent
         unfolding over
-        split = rw w.long at w.is
+        split = rw far_long at w.is
 
-        kept_first : take place space ≡ so_far c
-        kept_first = rw split (take_at (so_far c) (drop place lent) place w.long)
+        kept_first : take (i * n) space ≡ so_far i
+        kept_first = rw split (take_at (so_far i) (drop (i * n) lent) (i * n) far_long)
 
-        kept_last : drop (place + n) space ≡ drop (place + n) lent
+        kept_last : drop n (drop (i * n) space) ≡ drop (i * n + n) lent
         kept_last =
-            sym (drop-drop n place space)
-            ∙ ap (drop n) (rw split (drop_at (so_far c) (drop place lent) place w.long))
-            ∙ drop-drop n place lent
+            ap (drop n) (rw split (drop_at (so_far i) (drop (i * n) lent) (i * n) far_long)) ∙ drop-drop n (i * n) lent
 
-        pub wrote_in : {next : List ℕ} → next ≡ take place space ++ (digits n base c ++ drop (place + n) space)
-            → Wrote next (place + n) (c + 1)
+        -- the bytes from the place on are given to be written
+        put_rest : (c : ℕ) {out : List ℕ}
+            → out ≡ digits n base c ++ drop n (take (length space - i * n) (drop (i * n) space))
+            → put_mid (i * n) (length space - i * n) space out
+            ≡ take (i * n) space ++ (digits n base c ++ drop n (drop (i * n) space))
+        put_rest c {out} e =
+            let after : drop (length space - i * n) (drop (i * n) space) ≡ [] =
+            drop_all (length space - i * n) (drop (i * n) space) (omega (arith, length-drop (i * n) space)) in
+            ap (λ (l : List ℕ). take (i * n) space ++ (out ++ l)) after
+            ∙ ap (λ (l : List ℕ). take (i * n) space ++ l)
+            (append-nil out ∙ e ∙ ap (λ (l : List ℕ). digits n base c ++ drop n l) (take_rest space (i * n)))
+
+        pub wrote_more : {c : ℕ} {out : List ℕ} → c ≡ get_or passed i c
+            → out ≡ digits n base c ++ drop n (take (length space - i * n) (drop (i * n) space))
+            → Wrote (put_mid (i * n) (length space - i * n) space out) (i + 1)
         unfolding over
-        wrote_in {next} put =
+        wrote_more {c} is put =
+            let e : length (so_far (i + 1)) ≡ i * n + n = long (i + 1) (omega arith) ∙ rw add-one (suc-mul i n) in
             record {
               fits = w.fits;
               most = omega arith;
-              long = long_in;
-              is = put ∙ rw (long_in, far_in c e, kept_first, kept_last)
-                  (sym (append_assoc (so_far c) (digits n base c) (drop (place + n) lent)));
+              is = put_rest c put ∙ rw (e, far_more i c h is, kept_first, kept_last)
+                  (sym (append_assoc (so_far i) (digits n base c) (drop (i * n + n) lent)));
             }

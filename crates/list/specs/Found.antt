@@ -1,7 +1,8 @@
--- The candidates that are marked in words of bits.
-use Rattle.std.specs.Prelude.{Bool, List, ℕ, ◌/◌, ◌%◌, get_or}
-use Rattle.terms.specs.Set.{bit}
+-- The candidates that are marked.
+use Rattle.std.specs.Prelude.{Bool, ℕ}
+use Rattle.terms.specs.Set.{member}
+use Rattle.list.specs.declared.Found.{Found}
 
 -- candidate c is marked where bit c % 64 of word c / 64 is set
-unfoldable pub marked : List ℕ → ℕ → Bool
-marked found c = bit (get_or found (c / 64) 0) (c % 64)
+abbrev pub marked : Found → ℕ → Bool
+marked found c = member found.words c

@@ -1,96 +1,99 @@
 // All maps from one skeleton into another, in dictionary order. A candidate gives each of the n source strands one of `base` target
-// strands; candidate number c has the digits of c to that base. Which candidates are maps is kept in lent words: bit c % 64 of word
-// c / 64 says whether candidate c is one.
+// strands; candidate number c has the digits of c to that base. Which candidates are maps is kept a bit each.
 #![tactic(auto)]
 
-ghost use Rattle.std.specs.Prelude.{◌≡◌, ◌||◌, false, ◌++◌, ℕ, ◌+◌, ◌*◌, ◌^◌, ◌≤◌, ◌<◌, eqb, length, take, drop};
+ghost use Rattle.std.specs.Prelude.{◌≡◌, ◌||◌, false, ◌++◌, ℕ, ◌+◌, ◌*◌, ◌^◌, ◌≤◌, ◌<◌, eqb, length, drop};
 ghost use Rattle.model.specs.Answers.{over, end_to_end};
 ghost use Rattle.list.specs.Candidates.{digits, passing};
-ghost use Rattle.list.specs.Found.{marked};
 
-// How many words have a bit for each of the most candidates, 6 to the 6th power.
-pub const WORDS: usize = 729;
+use terms::{has_bit, put_bit};
 
-// How many candidates there are.
-pub fn power(base: u8, n: u8) -> usize
-    requires { (1 ≤ base) × (base ≤ 6) × (n ≤ 6) }
-    ensures { (result ≡ base ^ n) × (result ≤ 46656) }
-{
-    let mut p: usize = 1;
-    for i in 0..n {
-        p *= base as usize;
+// The candidates of two skeletons: the source has n strands, and the target `base`.
+#[derive(Clone, Copy)]
+pub struct Candidates {
+    pub n: u8,
+    pub base: u8,
+    ghost few: { (1 ≤ base) × (base ≤ 6) × (n ≤ 6) },
+}
+
+impl Candidates {
+    // How many there are.
+    pub fn total(self) -> usize
+        ensures { (result ≡ self.base ^ self.n) × (result ≤ 46656) }
+    {
+        usize::from(self.base).pow(u32::from(self.n))
     }
-    p
-}
 
-// Writes the digits of candidate c from `at` on, the first digit weighs most.
-pub fn put_digits(out: &mut [u8], at: usize, n: u8, base: u8, c: usize)
-    requires { (1 ≤ base) × (base ≤ 6) × (n ≤ 6) × (c < base ^ n) × (at + n ≤ length out.old) }
-    ensures { out.new ≡ take at out.old ++ (digits n base c ++ drop (at + n) out.old) }
-{
-    let mut weight = power(base, n);
-    let mut rest = c;
-    for i in 0..n as usize {
-        weight /= base as usize;
-        out[at + i] = (rest / weight) as u8;
-        rest %= weight;
-    }
-}
-
-// Marks candidate c as a map.
-pub fn mark(found: &mut [u64], c: usize)
-    requires { (length found.old ≡ 729) × (c < 46656) }
-    ensures { (k : ℕ) → marked found.new k ≡ (marked found.old k || eqb k c) }
-{
-    let w = c / 64;
-    found[w] = found[w] | 1 << (c % 64);
-}
-
-// Whether candidate c is marked.
-pub fn is_marked(found: &[u64], c: usize) -> bool
-    requires { (length found.now ≡ 729) × (c < 46656) }
-    ensures { result ≡ marked found.now c }
-{
-    (found[c / 64] >> (c % 64)) % 2 == 1
-}
-
-// Marks nothing.
-pub fn clear(found: &mut [u64])
-    requires { length found.old ≡ 729 }
-    ensures { (k : ℕ) → marked found.new k ≡ false }
-{
-    for i in 0..WORDS {
-        found[i] = 0;
-    }
-}
-
-// How many of the first `total` candidates are marked.
-pub fn count_marked(found: &[u64], total: usize) -> usize
-    requires { (length found.now ≡ 729) × (total ≤ 46656) }
-    ensures by_index { (n base : ℕ) → result ≡ length (passing n base (marked found.now) total) }
-    ensures upper_bound { result ≤ total }
-{
-    let mut count: usize = 0;
-    for c in 0..total {
-        if is_marked(found, c) {
-            count += 1;
+    // Writes the digits of candidate c, the first digit weighs most. The place of a digit is counted, since its weight falls beside it; a
+    // digit is below six, so it is a byte.
+    pub fn put_digits(self, out: &mut [u8], c: usize)
+        requires { (c < self.base ^ self.n) × (self.n ≤ length out.old) }
+        ensures { out.new ≡ digits self.n self.base c ++ drop self.n out.old }
+    {
+        let base = usize::from(self.base);
+        let mut weight = self.total();
+        let mut rest = c;
+        for i in 0..usize::from(self.n) {
+            weight /= base;
+            out[i] = (rest / weight) as u8;
+            rest %= weight;
         }
     }
-    count
 }
 
-// Writes the marked ones of the first `total` candidates end to end, n bytes each.
-pub fn write_marked(found: &[u64], total: usize, n: u8, base: u8, space: &mut [u8])
-    requires { (length found.now ≡ 729) × (1 ≤ base) × (base ≤ 6) × (n ≤ 6) × (total ≤ base ^ n)
-        × (length (passing n base (marked found.now) total) * n ≤ length space.old) }
-    ensures { space.new
-        ≡ over (end_to_end (passing n base (marked found.now) total)) space.old }
-{
-    let mut at: usize = 0;
-    for c in 0..total {
-        if is_marked(found, c) {
-            put_digits(space, at, n, base, c);
-            at += n as usize;
+// How many words have a bit for each of the most candidates, 6 to the 6th power.
+const WORDS: usize = 729;
+
+// Which candidates are maps: bit c % 64 of word c / 64 says whether candidate c is one.
+#[derive(Drop)]
+pub struct Found {
+    pub words: [u64; WORDS],
+}
+
+impl Found {
+    ghost use Rattle.list.specs.Found.{marked};
+
+    // None is marked.
+    pub fn none() -> Found
+        ensures { (k : ℕ) → marked result k ≡ false }
+    {
+        Found { words: [0; WORDS] }
+    }
+
+    // Whether candidate c is marked.
+    pub fn has(&self, c: usize) -> bool
+        requires { c < 46656 }
+        ensures { result ≡ marked self.now c }
+    {
+        has_bit(&self.words, c)
+    }
+
+    // Marks candidate c as a map.
+    pub fn mark(&mut self, c: usize)
+        requires { c < 46656 }
+        ensures { (k : ℕ) → marked self.new k ≡ (marked self.old k || eqb k c) }
+    {
+        put_bit(&mut self.words, c);
+    }
+
+    // How many of the first `total` candidates are marked.
+    pub fn count(&self, total: usize) -> usize
+        requires { total ≤ 46656 }
+        ensures by_index { (n base : ℕ) → result ≡ length (passing n base (marked self.now) total) }
+        ensures upper_bound { result ≤ total }
+    {
+        (0..total).filter(|c| self.has(*c)).count()
+    }
+
+    // Writes the marked ones of the first `total` candidates end to end.
+    pub fn write(&self, candidates: Candidates, total: usize, space: &mut [u8])
+        requires { (total ≤ candidates.base ^ candidates.n)
+            × (length (passing candidates.n candidates.base (marked self.now) total) * candidates.n ≤ length space.old) }
+        ensures { space.new ≡ over (end_to_end (passing candidates.n candidates.base (marked self.now) total)) space.old }
+    {
+        let marked = (0..total).filter(|c| self.has(*c));
+        for (i, c) in marked.enumerate() {
+            candidates.put_digits(&mut space[i * usize::from(candidates.n)..], c);
         }
     }
 }

@@ -16,26 +16,36 @@ use Rattle.model.specs.Maps.{IsStrandMap}
 use Rattle.theory.specs.NoSecond.{upto_less}
 use Rattle.list.specs.Candidates.{digits}
 use Rattle.list.specs.Found.{marked}
+use Rattle.list.specs.declared.Found.{Found}
+use Rattle.std.specs.Prelude.{Result, Ok, Err, is_ok}
+use Rattle.model.specs.declared.Rule.{Rule}
 use Rattle.list.proofs.Numbered.{digits_length}
 use Rattle.mapping.specs.Judged.{JudgedAs}
 use Rattle.listing.specs.Found.{IsMap, MarkedBelow}
 
 -- no rule is broken exactly when the bytes are a map
-pub judged_map : {rows : List Row} {A B : Skeleton ℕ} {map images : List ℕ} {rule : ℕ} → JudgedAs rows A B map images rule
-    → (rule ≡ 0) ↔ IsStrandMap (means (term rows) A) (means (term rows) B) map
-judged_map (JudgedAs.holds {σ} k m) = (λ e. record { σ = σ; kept = k }, λ u. refl)
-judged_map (JudgedAs.broken b) = (λ e. absurd (omega arith), λ u. absurd (b.breaks (upto_less _ _ _ _ 6 b.rule u)))
+pub judged_ok : {rows : List Row} {A B : Skeleton ℕ} {map images : List ℕ} {u : Unit {0}} → JudgedAs rows A B map images (Ok u)
+    → IsStrandMap (means (term rows) A) (means (term rows) B) map
+judged_ok (JudgedAs.holds {σ} k m) = record { σ = σ; kept = k }
+
+pub judged_err : {rows : List Row} {A B : Skeleton ℕ} {map images : List ℕ} {rule : Rule} → JudgedAs rows A B map images (Err rule)
+    → ¬ IsStrandMap (means (term rows) A) (means (term rows) B) map
+judged_err (JudgedAs.broken b) u = b.breaks (upto_less _ _ _ _ 6 b.rule u)
+
+pub judged_map : {rows : List Row} {A B : Skeleton ℕ} {map images : List ℕ} (r : Result (Unit {0}) Rule) → JudgedAs rows A B map images r
+    → (is_ok r ≡ true) ↔ IsStrandMap (means (term rows) A) (means (term rows) B) map
+judged_map (Ok u) j = (λ e. judged_ok j, λ m. refl)
+judged_map (Err rule) j = (λ e. absurd (true≢false (sym e)), λ m. absurd (judged_err j m))
 
 -- the digits are the first n bytes
-pub digits_first : (n base c : ℕ) (old new : List ℕ) → new ≡ take 0 old ++ (digits n base c ++ drop (0 + n) old)
-    → take n new ≡ digits n base c
-digits_first n base c old new e = rw e (take_at (digits n base c) (drop (0 + n) old) n (digits_length n base c))
+pub digits_first : (n base c : ℕ) (old : List ℕ) {new : List ℕ} → new ≡ digits n base c ++ drop n old → take n new ≡ digits n base c
+digits_first n base c old e = rw e (take_at (digits n base c) (drop n old) n (digits_length n base c))
 
 module _ {t : List ℕ} {a b : ℕ} where
-  pub marked_none : {found : List ℕ} → ((k : ℕ) → marked found k ≡ false) → MarkedBelow t a b 0 found
+  pub marked_none : {found : Found} → ((k : ℕ) → marked found k ≡ false) → MarkedBelow t a b 0 found
   marked_none none = record { at = λ k. (λ e. absurd (true≢false (sym e ∙ none k)), λ h. absurd (omega (arith, h.0))) }
 
-  pub marked_out : {c : ℕ} {found : List ℕ} {r : Bool} → MarkedBelow t a b c found → (r ≡ true) ↔ IsMap t a b c → r ≡ false
+  pub marked_out : {c : ℕ} {found : Found} {r : Bool} → MarkedBelow t a b c found → (r ≡ true) ↔ IsMap t a b c → r ≡ false
       → MarkedBelow t a b (c + 1) found
   marked_out {c} m is e =
       record {
@@ -52,7 +62,7 @@ module _ {t : List ℕ} {a b : ℕ} where
             | no d ↦ omega arith
           ]
 
-  pub marked_in : {c : ℕ} {found next : List ℕ} → MarkedBelow t a b c found → IsMap t a b c
+  pub marked_in : {c : ℕ} {found next : Found} → MarkedBelow t a b c found → IsMap t a b c
       → ((k : ℕ) → marked next k ≡ (marked found k || eqb k c))
       → MarkedBelow t a b (c + 1) next
   marked_in {c} {found} {next} m is with_it = record { at = λ k. go k (ℕ_discrete k c) }

@@ -1,2 +1,3 @@
 -- What the contracts of `listing` cite.
 pub mod Found
+pub mod Search

@@ -1,193 +1,100 @@
-// The list question about a sheet that lies accepted in lent tables. Every candidate is judged once; which ones are maps is kept a bit
-// each, and the list is written at the end.
+// The list question about an accepted sheet. Every candidate is judged once; which ones are maps is kept a bit each, and the list is
+// written at the end.
 #![tactic(auto)]
 
-ghost use Rattle.std.specs.Prelude.{◌≡◌, true, false, ◌↔◌, ℕ, ◌+◌, ◌^◌, ◌<◌, ◌≤◌, length};
+ghost use Rattle.std.specs.Prelude.{◌≡◌, true, ◌↔◌, ◌+◌, ◌^◌, ◌<◌, ◌≤◌};
 ghost use Rattle.model.specs.Sheet.{Verdict};
-ghost use Rattle.model.specs.Answers.{AskList, refusal};
+ghost use Rattle.model.specs.Answers.{AskList};
 ghost use Rattle.model.specs.Says.{list_says};
 ghost use Rattle.theory.specs.Encoding.{WithinLimits};
 ghost use Rattle.tables.specs.Tables.{sheet_in};
-ghost use Rattle.accept.specs.Held.{Stored};
 ghost use Rattle.list.specs.Candidates.{passing};
 ghost use Rattle.list.specs.Found.{marked};
-ghost use Rattle.mapping.specs.Judged.{Asked, Prepared};
+ghost use Rattle.mapping.specs.Judged.{IsPrepared};
 ghost use Rattle.listing.specs.Found.{strands, IsMap, MarkedBelow, GivenAs, FewMaps};
+ghost use Rattle.listing.specs.Search.{Searches, MarkedAll};
 
-use list::{WORDS, clear, count_marked, mark, power, put_digits, write_marked};
-use mapping::{Atoms, atoms_of, fill_origins, judge_map};
-use model::{ListAnswer, Refusal};
-use order::precedence;
-use tables::STRAND_COUNT;
-use tables::blocks::{block_of, has_skeleton};
+use accept::sheet::Sheet;
+use list::{Candidates, Found};
+use mapping::prepared::{Prepared, prepare};
+use mapping::{NONE, judge_map};
+use model::{Answer, Reason, Refusal};
 
-// Whether candidate c is a map.
-fn is_map(
-    table: &[u8],
-    inverses: &[u8],
-    before: &[u64],
-    source: usize,
-    target: usize,
-    from: Atoms,
-    to: Atoms,
-    starts: &[u8],
-    ends: &[u8],
-    c: usize,
-) -> bool
-    requires { Prepared table.now inverses.now source target before.now from to starts.now ends.now
-        × (1 ≤ strands table.now target) × (c < strands table.now target ^ strands table.now source) }
-    ensures { (result ≡ true) ↔ IsMap table.now source target c }
-{
-    let n = table[source + STRAND_COUNT];
-    let mut map = [0u8; 6];
-    put_digits(&mut map, 0, n, table[target + STRAND_COUNT], c);
-    let mut images = [255u8; 200];
-    let rule = judge_map(
-        table,
-        inverses,
-        before,
-        source,
-        target,
-        from,
-        to,
-        starts,
-        ends,
-        &map[..n as usize],
-        &mut images,
-    );
-    rule == 0
+// The candidates among which the maps of two skeletons are.
+#[derive(Drop)]
+struct Search<'a> {
+    prepared: Prepared<'a>,
+    candidates: Candidates,
 }
 
-// Marks candidate c if it is a map; those before it are marked already.
-fn try_candidate(
-    table: &[u8],
-    inverses: &[u8],
-    before: &[u64],
-    source: usize,
-    target: usize,
-    from: Atoms,
-    to: Atoms,
-    starts: &[u8],
-    ends: &[u8],
-    c: usize,
-    found: &mut [u64],
-)
-    requires { Prepared table.now inverses.now source target before.now from to starts.now ends.now
-        × (1 ≤ strands table.now target) × (c < strands table.now target ^ strands table.now source)
-        × (length found.old ≡ 729) × MarkedBelow table.now source target c found.old }
-    ensures { MarkedBelow table.now source target (c + 1) found.new × (length found.new ≡ 729) }
-{
-    if is_map(
-        table, inverses, before, source, target, from, to, starts, ends, c,
-    ) {
-        mark(found, c);
+impl<'a> Search<'a> {
+    // Each source strand goes to one of the target's.
+    fn new(prepared: Prepared<'a>) -> Search<'a>
+        requires { IsPrepared prepared × (1 ≤ strands prepared.sides.table.now prepared.sides.target) }
+        ensures searches { Searches result }
+        ensures same { result.prepared ≡ prepared.entry }
+    {
+        let sides = prepared.sides;
+        Search {
+            prepared,
+            candidates: Candidates {
+                n: sides.from().strand_count(),
+                base: sides.to().strand_count(),
+            },
+        }
     }
-}
 
-// Marks the candidates that are maps.
-fn mark_maps(
-    table: &[u8],
-    inverses: &[u8],
-    before: &[u64],
-    source: usize,
-    target: usize,
-    from: Atoms,
-    to: Atoms,
-    starts: &[u8],
-    ends: &[u8],
-    found: &mut [u64],
-)
-    requires { Prepared table.now inverses.now source target before.now from to starts.now ends.now
-        × (1 ≤ strands table.now target) × (length found.old ≡ 729) × MarkedBelow table.now source target 0 found.old }
-    ensures { MarkedBelow table.now source target
-        (strands table.now target ^ strands table.now source) found.new
-        × (length found.new ≡ 729) }
-{
-    for c in 0..power(table[target + STRAND_COUNT], table[source + STRAND_COUNT]) {
-        try_candidate(
-            table, inverses, before, source, target, from, to, starts, ends, c, found,
-        );
+    // Whether candidate c is a map. There is no heap, so the digits lie at the start of the six that the most strands take.
+    fn is_map(&self, c: usize) -> bool
+        requires { Searches self.now × (c < self.now.candidates.base ^ self.now.candidates.n) }
+        ensures { (result ≡ true) ↔ IsMap self.now.prepared.sides.table.now
+            self.now.prepared.sides.source self.now.prepared.sides.target c }
+    {
+        let mut map = [0; 6];
+        self.candidates.put_digits(&mut map, c);
+        let mut images = [NONE; 200];
+        let used = usize::from(self.candidates.n);
+        judge_map(&self.prepared, &map[..used], &mut images).is_ok()
     }
-}
 
-// Prepares what does not hang on the map, and marks the candidates that are maps.
-fn find_maps(
-    table: &[u8],
-    inverses: &[u8],
-    before: &mut [u64],
-    source: usize,
-    target: usize,
-    found: &mut [u64],
-)
-    requires { Asked table.now inverses.now source target × (1 ≤ strands table.now target) × (length before.old ≡ 192)
-        × (length found.old ≡ 729) }
-    ensures { MarkedBelow table.now source target
-        (strands table.now target ^ strands table.now source) found.new
-        × (length found.new ≡ 729) }
-{
-    let from = atoms_of(table, source);
-    let to = atoms_of(table, target);
-    let mut starts = [0u8; 200];
-    let mut ends = [0u8; 200];
-    fill_origins(table, source, from.uniqs, &mut starts);
-    fill_origins(table, target, to.uniqs, &mut ends);
-    precedence(table, target, before);
-    clear(found);
-    mark_maps(
-        table, inverses, before, source, target, from, to, &starts, &ends, found,
-    );
-}
-
-// "15: no such skeleton, term, or reception asked for", "16: lent space too short"
-fn refuse(number: u8) -> ListAnswer
-    ensures { (list_says result ≡ Rattle.model.specs.Answers.refused (refusal number)) × FewMaps result }
-{
-    ListAnswer::Refused(Refusal {
-        number,
-        place: 0,
-        skeleton: 0,
-    })
+    // Marks the candidates that are maps.
+    fn find(&self) -> Found
+        requires { Searches self.now }
+        ensures { MarkedAll self.now result }
+    {
+        let mut found = Found::none();
+        for c in 0..self.candidates.total() {
+            if self.is_map(c) {
+                found.mark(c);
+            }
+        }
+        found
+    }
 }
 
 // Counts the marked candidates, and writes them if there is room.
-fn write_list(found: &[u64], n: u8, base: u8, space: &mut [u8]) -> ListAnswer
-    requires { (length found.now ≡ 729) × (1 ≤ base) × (base ≤ 6) × (n ≤ 6) }
-    ensures { GivenAs (passing n base (marked found.now) (base ^ n)) n space.old (list_says result)
-        space.new × FewMaps result }
+fn write_list(found: &Found, candidates: Candidates, space: &mut [u8]) -> Answer<usize>
+    ensures { GivenAs (passing candidates.n candidates.base (marked found.now) (candidates.base ^ candidates.n))
+        candidates.n space.old (list_says result) space.new × FewMaps result }
 {
-    let total = power(base, n);
-    let count = count_marked(found, total);
-    if space.len() < count * n as usize {
-        return refuse(16);
+    let total = candidates.total();
+    let count = found.count(total);
+    if space.len() < count * usize::from(candidates.n) {
+        return Err(Refusal::from(Reason::NoRoom));
     }
-    write_marked(found, total, n, base, space);
-    ListAnswer::Maps(count)
+    found.write(candidates, total, space);
+    Ok(count)
 }
 
 // Which strand maps from one skeleton to another are maps? All are written, in dictionary order.
-pub fn list(
-    table: &[u8],
-    inverses: &[u8],
-    before: &mut [u64],
-    source: u8,
-    target: u8,
-    space: &mut [u8],
-) -> ListAnswer
-    requires { Stored table.now inverses.now × WithinLimits (sheet_in table.now) × (length before.old ≡ 192) }
-    ensures { AskList source target space.old (Verdict.accepted (sheet_in table.now)) (list_says result)
+pub fn list(sheet: &Sheet, source: u8, target: u8, space: &mut [u8]) -> Answer<usize>
+    requires { WithinLimits (sheet_in sheet.now.table) }
+    ensures { AskList source target space.old (Verdict.accepted (sheet_in sheet.now.table)) (list_says result)
         space.new × FewMaps result }
 {
-    if !(has_skeleton(table, source) & has_skeleton(table, target)) {
-        return refuse(15);
-    }
-    let from = block_of(source);
-    let to = block_of(target);
-    let mut found = [0u64; WORDS];
-    find_maps(table, inverses, before, from, to, &mut found);
-    write_list(
-        &found,
-        table[from + STRAND_COUNT],
-        table[to + STRAND_COUNT],
-        space,
-    )
+    let Some(prepared) = prepare(sheet, source, target) else {
+        return Err(Refusal::from(Reason::NoSuch));
+    };
+    let search = Search::new(prepared);
+    write_list(&search.find(), search.candidates, space)
 }

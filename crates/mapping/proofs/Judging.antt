@@ -5,23 +5,22 @@ use mathlib.Core.List.{List}
 use Prim.Native.Nat.{ℕ, suc, ◌≤◌}
 use native.Mathlib.Omega.{arith}
 use lib.ListN.{length, length-map}
+use Rattle.std.specs.Prelude.{Result, Ok, Err}
 use Rattle.model.specs.Term.{Term}
 use Rattle.model.specs.Subst.{Subst}
 use Rattle.model.specs.Table.{Row, term}
 use Rattle.model.specs.Skeleton.{Skeleton, means}
-use Rattle.model.specs.Maps.{OneByteEach, Rule2, Rule4, Kept, Upto, FirstBroken}
+use Rattle.model.specs.Maps.{Kept, Upto, FirstBroken}
+use Rattle.model.specs.declared.Rule.{Rule}
 use Rattle.theory.specs.Tests.{was_no}
 use Rattle.theory.specs.Substituting.{plain}
 use Rattle.theory.specs.NoSecond.{upto_less}
-use Rattle.tables.specs.Tables.{byte}
-use Rattle.matching.specs.Matches.{Matches, Takes}
-use Rattle.maps.specs.Rules.{Tells1, Tells2, Tells4, Tells5, Tells6}
 use Rattle.tables.specs.Tables.{rows_in, skeleton_at}
-use Rattle.matching.specs.Ready as Matching
-use Rattle.maps.specs.Images.{Ready}
-use Rattle.maps.specs.Atoms.{Matched}
-use Rattle.mapping.specs.declared.Atoms.{Atoms}
-use Rattle.mapping.specs.Judged.{Asked, Prepared, JudgedAs}
+use Rattle.matching.specs.Matches.{Matches, Takes}
+use Rattle.maps.specs.Rules.{KeptTo1, KeptTo2, Tells1, Tells2, Tells4, Tells5, Tells6}
+use Rattle.maps.specs.Atoms.{Matched, Judges5, Judges6}
+use Rattle.mapping.specs.declared.prepared.Prepared.{Prepared}
+use Rattle.mapping.specs.Judged.{Asked, IsPrepared, JudgedAs}
 
 -- the rules up to k hold, and the next does not
 first : (A B : Skeleton Term) (map : List ℕ) (k : ℕ) → suc k ≤ 6 → {σ : Subst} → Kept A B map k σ → ¬ Upto A B map (suc k)
@@ -36,15 +35,12 @@ module _ (rows : List Row) (A B : Skeleton ℕ) (map images : List ℕ) where
   abbrev B' : Skeleton Term
   B' = means (term rows) B
 
-  abbrev f : ℕ → ℕ
-  f s = byte map s
-
-  abbrev Judged : ℕ → Type 0
+  abbrev Judged : Result (Unit {0}) Rule → Type 0
   Judged = JudgedAs rows A B map images
 
-  pub breaks_1 : {r : Bool} → Tells1 rows A B map r → r ≡ false → Judged 1
+  pub breaks_1 : {r : Bool} → Tells1 rows A B map r → r ≡ false → Judged (Err Rule.Strands)
   breaks_1 test e =
-      JudgedAs.broken (first A' B' map 0 (omega arith) {σ = plain} (record {
+      JudgedAs.broken {rule = Rule.Strands} (first A' B' map 0 (omega arith) {σ = plain} (record {
         strands = λ h. absurd (omega arith);
         directions = λ h. absurd (omega arith);
         messages = λ h. absurd (omega arith);
@@ -53,120 +49,130 @@ module _ (rows : List Row) (A B : Skeleton ℕ) (map images : List ℕ) where
         uniq = λ h. absurd (omega arith);
       }) (λ u. was_no test e (u.kept.strands (omega arith))))
 
-  module _ (r₁ : OneByteEach A' B' map) where
-    pub breaks_2 : {r : Bool} → Tells2 rows A B map r → r ≡ false → Judged 2
-    breaks_2 test e =
-        JudgedAs.broken (first A' B' map 1 (omega arith) {σ = plain} (record {
-          strands = λ h. r₁;
-          directions = λ h. absurd (omega arith);
-          messages = λ h. absurd (omega arith);
+  pub breaks_2 : {r : Bool} → KeptTo1 rows A B map → Tells2 rows A B map r → r ≡ false → Judged (Err Rule.Events)
+  breaks_2 one test e =
+      JudgedAs.broken {rule = Rule.Events} (first A' B' map 1 (omega arith) {σ = plain} (record {
+        strands = λ h. one;
+        directions = λ h. absurd (omega arith);
+        messages = λ h. absurd (omega arith);
+        order = λ h. absurd (omega arith);
+        non = λ h. absurd (omega arith);
+        uniq = λ h. absurd (omega arith);
+      }) (λ u. was_no test e (u.kept.directions (omega arith))))
+
+  pub breaks_3 : {r : Bool} → KeptTo2 rows A B map → Matches rows A B map images r → r ≡ false → Judged (Err Rule.Messages)
+  breaks_3 two test e =
+      JudgedAs.broken {rule = Rule.Messages} (first A' B' map 2 (omega arith) {σ = plain} (record {
+        strands = λ h. two.strands;
+        directions = λ h. two.directions;
+        messages = λ h. absurd (omega arith);
+        order = λ h. absurd (omega arith);
+        non = λ h. absurd (omega arith);
+        uniq = λ h. absurd (omega arith);
+      }) (λ u. was_no test.holds e (u.σ, u.kept.messages (omega arith))))
+
+  -- the rules up to 3 hold, with the substitution that rule 3's test finds
+  pub record KeptTo3 : Type 0 where
+    pub nodes : KeptTo2 rows A B map
+    pub matches : Matches rows A B map images true
+
+  pub kept_to_3 : {r : Bool} → KeptTo2 rows A B map → Matches rows A B map images r → r ≡ true → KeptTo3
+  kept_to_3 two test e = record { nodes = two; matches = rw e at test }
+
+  module _ (three : KeptTo3) where
+    abbrev found : Subst
+    found = (three.matches.holds.0 refl).0
+
+    abbrev takes : Takes rows A B map found
+    takes = (three.matches.holds.0 refl).1
+
+    pub breaks_4 : {r : Bool} → Tells4 rows A B map r → r ≡ false → Judged (Err Rule.Order)
+    breaks_4 test e =
+        JudgedAs.broken {rule = Rule.Order} (first A' B' map 3 (omega arith) {σ = found} (record {
+          strands = λ h. three.nodes.strands;
+          directions = λ h. three.nodes.directions;
+          messages = λ h. takes;
           order = λ h. absurd (omega arith);
           non = λ h. absurd (omega arith);
           uniq = λ h. absurd (omega arith);
-        }) (λ u. was_no test e (u.kept.directions (omega arith))))
+        }) (λ u. was_no test e (u.kept.order (omega arith))))
 
-    module _ (r₂ : Rule2 A' B' f) where
-      pub breaks_3 : {r : Bool} → Matches rows A B map images r → r ≡ false → Judged 3
-      breaks_3 test e =
-          JudgedAs.broken (first A' B' map 2 (omega arith) {σ = plain} (record {
-            strands = λ h. r₁;
-            directions = λ h. r₂;
-            messages = λ h. absurd (omega arith);
-            order = λ h. absurd (omega arith);
+    module _ {s₄ : Bool} (four : Tells4 rows A B map s₄) (r₄ : s₄ ≡ true) where
+      pub breaks_5 : {r : Bool} → Tells5 rows A B map r → r ≡ false → Judged (Err Rule.Nons)
+      breaks_5 test e =
+          JudgedAs.broken {rule = Rule.Nons} (first A' B' map 4 (omega arith) {σ = found} (record {
+            strands = λ h. three.nodes.strands;
+            directions = λ h. three.nodes.directions;
+            messages = λ h. takes;
+            order = λ h. four.0 r₄;
             non = λ h. absurd (omega arith);
             uniq = λ h. absurd (omega arith);
-          }) (λ u. was_no test.holds e (u.σ, u.kept.messages (omega arith))))
+          }) (λ u. was_no (test u.σ (u.kept.messages (omega arith))) e (u.kept.non (omega arith))))
 
-      -- from here on with the substitution that rule 3's test finds
-      module _ (matches : Matches rows A B map images true) where
-        abbrev found : Subst
-        found = (matches.holds.0 refl).0
-
-        abbrev takes : Takes rows A B map found
-        takes = (matches.holds.0 refl).1
-
-        pub breaks_4 : {r : Bool} → Tells4 rows A B map r → r ≡ false → Judged 4
-        breaks_4 test e =
-            JudgedAs.broken (first A' B' map 3 (omega arith) {σ = found} (record {
-              strands = λ h. r₁;
-              directions = λ h. r₂;
+      module _ {s₅ : Bool} (five : Tells5 rows A B map s₅) (r₅ : s₅ ≡ true) where
+        pub breaks_6 : {r : Bool} → Tells6 rows A B map r → r ≡ false → Judged (Err Rule.Uniqs)
+        breaks_6 test e =
+            JudgedAs.broken {rule = Rule.Uniqs} (first A' B' map 5 (omega arith) {σ = found} (record {
+              strands = λ h. three.nodes.strands;
+              directions = λ h. three.nodes.directions;
               messages = λ h. takes;
-              order = λ h. absurd (omega arith);
-              non = λ h. absurd (omega arith);
+              order = λ h. four.0 r₄;
+              non = λ h. (five found takes).0 r₅;
               uniq = λ h. absurd (omega arith);
-            }) (λ u. was_no test e (u.kept.order (omega arith))))
+            }) (λ u. was_no (test u.σ (u.kept.messages (omega arith))) e (u.kept.uniq (omega arith))))
 
-        module _ (r₄ : Rule4 A' B' f) where
-          pub breaks_5 : {r : Bool} → Tells5 rows A B map r → r ≡ false → Judged 5
-          breaks_5 test e =
-              JudgedAs.broken (first A' B' map 4 (omega arith) {σ = found} (record {
-                strands = λ h. r₁;
-                directions = λ h. r₂;
-                messages = λ h. takes;
-                order = λ h. r₄;
-                non = λ h. absurd (omega arith);
-                uniq = λ h. absurd (omega arith);
-              }) (λ u. was_no (test u.σ (u.kept.messages (omega arith))) e (u.kept.non (omega arith))))
+        pub all_hold : {r : Bool} → Tells6 rows A B map r → r ≡ true → Judged (Ok tt)
+        all_hold test e =
+            JudgedAs.holds {σ = found} (record {
+              strands = λ h. three.nodes.strands;
+              directions = λ h. three.nodes.directions;
+              messages = λ h. takes;
+              order = λ h. four.0 r₄;
+              non = λ h. (five found takes).0 r₅;
+              uniq = λ h. (test found takes).0 e;
+            }) three.matches
 
-          module _ {s : Bool} (five : Tells5 rows A B map s) (r₅ : s ≡ true) where
-            pub breaks_6 : {r : Bool} → Tells6 rows A B map r → r ≡ false → Judged 6
-            breaks_6 test e =
-                JudgedAs.broken (first A' B' map 5 (omega arith) {σ = found} (record {
-                  strands = λ h. r₁;
-                  directions = λ h. r₂;
-                  messages = λ h. takes;
-                  order = λ h. r₄;
-                  non = λ h. (five found takes).0 r₅;
-                  uniq = λ h. absurd (omega arith);
-                }) (λ u. was_no (test u.σ (u.kept.messages (omega arith))) e (u.kept.uniq (omega arith))))
-
-            pub all_hold : {r : Bool} → Tells6 rows A B map r → r ≡ true → Judged 0
-            all_hold test e =
-                JudgedAs.holds {σ = found} (record {
-                  strands = λ h. r₁;
-                  directions = λ h. r₂;
-                  messages = λ h. takes;
-                  order = λ h. r₄;
-                  non = λ h. (five found takes).0 r₅;
-                  uniq = λ h. (test found takes).0 e;
-                }) matches
-
--- what the test of rule 3 asks
-pub ready : {t inverses : List ℕ} {a b : ℕ} → Asked t inverses a b → Matching.Ready t inverses
-ready p =
-    record {
-      filled = p.source.filled;
-      good = p.source.good;
-      inverted = p.inverses_are.inverted;
-      long = p.inverses_are.long;
-    }
-
--- what the tests of rules 5 and 6 ask
-pub images_ready : {t inverses images : List ℕ} {a b : ℕ} → Asked t inverses a b → length images ≡ 200 → Ready t images
-images_ready p l = record { filled = p.source.filled; good = p.source.good; long = l }
-
-pub was_matched : {rows : List Row} {A B : Skeleton ℕ} {map images : List ℕ} {r : Bool} → Matches rows A B map images r → r ≡ true
-    → Matches rows A B map images true
-was_matched m e = rw e at m
-
--- what the tests of rules 5 and 6 are about
-pub matched : {t inverses before starts ends map images : List ℕ} {a b : ℕ} {from to : Atoms}
-    → Prepared t inverses a b before from to starts ends
-    → Matches (rows_in t) (skeleton_at t a) (skeleton_at t b) map images true
-    → Matched (rows_in t) (skeleton_at t a) (skeleton_at t b) map images
-matched p m =
-    record {
-      source_on = p.asked.source.on_table;
-      target_on = p.asked.target.on_table;
-      source = p.asked.source_right;
-      target = p.asked.target_right;
-      nons = p.asked.nons;
-      uniqs = p.asked.uniqs;
-      matches = m;
-    }
+pub kept_to_2 : (rows : List Row) (A B : Skeleton ℕ) (map : List ℕ) {r : Bool} → KeptTo1 rows A B map → Tells2 rows A B map r → r ≡ true
+    → KeptTo2 rows A B map
+kept_to_2 rows A B map one test e = record { strands = one; directions = test.0 e }
 
 -- as many bytes as source strands, by their numbers
-pub full : (rows : List Row) (A B : Skeleton ℕ) (bytes : List ℕ) → OneByteEach (means (term rows) A) (means (term rows) B) bytes
-    → length bytes ≡ length A.strands
+pub full : (rows : List Row) (A B : Skeleton ℕ) (map : List ℕ) → KeptTo1 rows A B map → length map ≡ length A.strands
 unfolding means
-full rows A B bytes r = r.full ∙ length-map A.strands _
+full rows A B map r = r.full ∙ length-map A.strands _
+
+-- what the tests of rules 5 and 6 are about
+matched : {t inverses map images : List ℕ} {a b : ℕ} → Asked t inverses a b
+    → KeptTo3 (rows_in t) (skeleton_at t a) (skeleton_at t b) map images
+    → Matched (rows_in t) (skeleton_at t a) (skeleton_at t b) map images
+matched asked three =
+    record {
+      source_on = asked.source.on_table;
+      target_on = asked.target.on_table;
+      source = asked.source_right;
+      target = asked.target_right;
+      nons = asked.nons;
+      uniqs = asked.uniqs;
+      matches = three.matches;
+    }
+
+-- what the tests of rules 5 and 6 tell, once rule 3 holds
+module _ (p : Prepared) (is : IsPrepared p) (map images : List ℕ) where
+  abbrev rows : List Row
+  rows = rows_in p.sides.table.now
+
+  abbrev A : Skeleton ℕ
+  A = skeleton_at p.sides.table.now p.sides.source
+
+  abbrev B : Skeleton ℕ
+  B = skeleton_at p.sides.table.now p.sides.target
+
+  pub nons_tell : {r : Bool} → Judges5 rows images p.from.nons p.to.nons r → KeptTo3 rows A B map images → Tells5 rows A B map r
+  nons_tell test three = test.tells _ _ _ (matched is.asked three) is.source_atoms.nons is.target_atoms.nons
+
+  pub uniqs_tell : {r : Bool} → Judges6 rows images map p.from.uniqs p.to.uniqs p.from.origins p.to.origins r
+      → KeptTo3 rows A B map images
+      → Tells6 rows A B map r
+  uniqs_tell test three =
+      test.tells _ _ (matched is.asked three) is.source_atoms.uniqs is.target_atoms.uniqs is.source_atoms.origins
+      is.target_atoms.origins

@@ -1,6 +1,6 @@
--- Laws that belong to no one function, and what an accepted sheet's reading gives.
-pub mod Reading
+-- Laws that belong to no one function, and what is known of a sheet that was read.
 mod Judging
 mod Starting
 mod Writing
+pub mod Reading
 pub mod Asking

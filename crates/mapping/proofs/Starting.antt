@@ -1,13 +1,14 @@
 -- Where the UO atoms originate, one after the other. Assumes nothing.
-use mathlib.Core.Path.{◌≡◌, sym, ap, ◌∙◌}
-use mathlib.Core.Bool.{false, true≢false}
+use mathlib.Core.Path.{◌≡◌, refl, sym, ap, ◌∙◌}
+use mathlib.Core.Bool.{true, false, true≢false}
 use mathlib.Core.List.Memᴰ
 use mathlib.Core.List.{List}
-use Prim.Native.Nat.{ℕ, ◌+◌, ◌*◌, ◌<◌, ◌≤◌}
+use Prim.Native.Nat.{ℕ, ◌+◌, ◌<◌, ◌≤◌}
 use native.Mathlib.Omega.{arith}
-use lib.ListN.{length, set}
+use lib.ListN.{length, get_or, set}
 use lib.Seq.{get_or-set_same, get_or-set_other}
 use borrow.Author.Count.{below_none, below_more}
+use Rattle.std.specs.Prelude.{Option, Some, None}
 use Rattle.terms.specs.declared.TermSet.{TermSet}
 use Rattle.terms.specs.declared.Node as Code
 use Rattle.terms.specs.Set.{mem, IsSetOf}
@@ -17,88 +18,66 @@ use Rattle.model.specs.Says.{node_of}
 use Rattle.theory.specs.GoodTable.{Good}
 use Rattle.theory.specs.OnTable.{OnTable}
 use Rattle.theory.specs.Skeletons.{IsSkeleton}
-use Rattle.tables.specs.Tables.{byte, skeleton_at, Block}
 use Rattle.carry.specs.Sets.{IsCarriers}
 use Rattle.origin.specs.declared.Origins.{Origins}
-use Rattle.origin.specs.Marked.{FirstSent, OriginatesAs}
-use Rattle.tables.proofs.Nodes.{strand_low, position_low}
+use Rattle.origin.specs.Marked.{OriginatesAs}
 use Rattle.rules.proofs.Transfer.{origin_iff}
 use Rattle.maps.specs.Rules.{IsOrigins}
-use Rattle.mapping.specs.Origins.{StartsAt, MemberStarts}
-
--- the node that is found
-pub found_at : {K : Skeleton ℕ} (marks : TermSet) {o : Origins} (n : Code.Node) → OriginatesAs K (mem marks) o → o ≡ Origins.At n
-    → FirstSent K (mem marks) (node_of n)
-found_at marks n (OriginatesAs.nowhere f) e = let z : ◌≡◌ {A = ℕ} 0 1 = cc in absurd (omega arith)
-found_at marks n (OriginatesAs.at {n = m} f g) e = let z : m ≡ n = cc in rw z at f
-found_at marks n (OriginatesAs.several f g h) e = let z : ◌≡◌ {A = ℕ} 0 1 = cc in absurd (omega arith)
-
--- its number is a byte
-pub origin_low : {t : List ℕ} {b : ℕ} (marks : TermSet) {o : Origins} (n : Code.Node) → Block t b
-    → OriginatesAs (skeleton_at t b) (mem marks) o
-    → o ≡ Origins.At n
-    → (n.strand.0 < 6) × (n.position < 16)
-unfolding node_of
-origin_low {t} {b} marks n few originates e =
-    let f = found_at marks n originates e in (strand_low few f.at, position_low few f.at)
+use Rattle.mapping.specs.Origins.{StartsAt}
 
 module _ {rows : List Row} (good : Good rows) {K : Skeleton ℕ} (ok : OnTable rows K) {a : ℕ} {marks : TermSet}
     (carriers : IsCarriers rows a marks) where
-  abbrev Starts : ℕ → Type 0
+  abbrev Starts : Option Code.Node → Type 0
   Starts = StartsAt rows K a
 
-  pub starts_at : {o : Origins} (n : Code.Node) → OriginatesAs K (mem marks) o → o ≡ Origins.At n
-      → Starts (16 * n.strand.0 + n.position)
-  unfolding node_of
-  starts_at n originates e =
-      let f = found_at marks n originates e in
+  pub starts_at : {c : Code.Node} → OriginatesAs K (mem marks) (Origins.At c) → Starts (Some c)
+  starts_at {c} (OriginatesAs.at f g) =
       record {
-        at = λ m o only.
-            let z : node_of n ≡ m = only (node_of n) ((origin_iff rows good K ok a marks carriers (node_of n)).0 f) in
-            ap (λ (x : Node). 16 * x.strand + x.position) z;
+        at = λ m o only. (c, refl, only (node_of c) ((origin_iff rows good K ok a marks carriers (node_of c)).0 f));
       }
 
-  module _ {r : ℕ} where
-    pub starts_nowhere : {o : Origins} → OriginatesAs K (mem marks) o → o ≡ Origins.Nowhere → Starts r
-    starts_nowhere (OriginatesAs.nowhere f) e =
-        record { at = λ n o only. absurd (f n ((origin_iff rows good K ok a marks carriers n).1 o)) }
-    starts_nowhere (OriginatesAs.at f g) e = let z : ◌≡◌ {A = ℕ} 0 1 = cc in absurd (omega arith)
-    starts_nowhere (OriginatesAs.several f g h) e = let z : ◌≡◌ {A = ℕ} 0 1 = cc in absurd (omega arith)
+  pub starts_nowhere : {r : Option Code.Node} → OriginatesAs K (mem marks) Origins.Nowhere → Starts r
+  starts_nowhere (OriginatesAs.nowhere f) =
+      record { at = λ n o only. absurd (f n ((origin_iff rows good K ok a marks carriers n).1 o)) }
 
-    pub starts_often : {o : Origins} → OriginatesAs K (mem marks) o → o ≡ Origins.Several → Starts r
-    starts_often (OriginatesAs.nowhere f) e = let z : ◌≡◌ {A = ℕ} 0 1 = cc in absurd (omega arith)
-    starts_often (OriginatesAs.at f g) e = let z : ◌≡◌ {A = ℕ} 0 1 = cc in absurd (omega arith)
-    starts_often (OriginatesAs.several {m} {n} f g h) e =
-        let origin = origin_iff rows good K ok a marks carriers in
-        record {
-          at = λ x o only.
-              absurd (h (ap (λ (y : Node). y.strand) (only m ((origin m).0 f) ∙ sym (only n ((origin n).0 g)))));
-        }
+  pub starts_often : {r : Option Code.Node} → OriginatesAs K (mem marks) Origins.Several → Starts r
+  starts_often (OriginatesAs.several {m} {n} f g h) =
+      let origin = origin_iff rows good K ok a marks carriers in
+      record {
+        at = λ x o only.
+            absurd (h (ap (λ (y : Node). y.strand) (only m ((origin m).0 f) ∙ sym (only n ((origin n).0 g)))));
+      }
 
--- a term that is no member
-pub starts_out : {rows : List Row} {K : Skeleton ℕ} {members : TermSet} {a r : ℕ} → mem members a ≡ false
-    → MemberStarts rows K members a r
-starts_out e = record { starts = λ m. absurd (true≢false (sym m ∙ e)) }
-
--- the bytes of the terms below n say where the members originate
-pub record StartsBelow (rows : List Row) (K : Skeleton ℕ) (members : TermSet) (n : ℕ) (origins : List ℕ) : Type 0 where
-  pub at : (i : ℕ) → i < n → MemberStarts rows K members i (byte origins i)
+-- of the terms below n the origins of the members are known
+pub record StartsBelow (rows : List Row) (K : Skeleton ℕ) (members : TermSet) (n : ℕ) (origins : List (Option Code.Node)) : Type 0 where
+  pub at : (i : ℕ) → i < n → mem members i ≡ true → StartsAt rows K i (get_or origins i None)
 
 module _ {rows : List Row} {K : Skeleton ℕ} {members : TermSet} where
-  pub starts_none : {origins : List ℕ} → StartsBelow rows K members 0 origins
+  pub starts_none : {origins : List (Option Code.Node)} → StartsBelow rows K members 0 origins
   starts_none = record { at = below_none _ }
 
-  pub starts_more : {n r : ℕ} {origins : List ℕ} → n < length origins → StartsBelow rows K members n origins
-      → MemberStarts rows K members n r
+  pub starts_more : {n : ℕ} {r : Option Code.Node} {origins : List (Option Code.Node)} → n < length origins
+      → StartsBelow rows K members n origins
+      → StartsAt rows K n r
       → StartsBelow rows K members (n + 1) (set origins n r)
   starts_more {n} {r} {origins} h so_far this =
       record {
-        at = below_more (λ i. MemberStarts rows K members i (byte (set origins n r) i)) n
-            (λ i l. rw (get_or-set_other origins n i r 0 (λ e. omega arith)) (so_far.at i l))
-            (rw (get_or-set_same origins n r 0 h) this);
+        at = below_more (λ i. mem members i ≡ true → StartsAt rows K i (get_or (set origins n r) i None)) n
+            (λ i l. rw (get_or-set_other origins n i r None (λ e. omega arith)) (so_far.at i l))
+            (λ m. rw (get_or-set_same origins n r None h) this);
       }
 
-  pub all_origins : {n : ℕ} {origins : List ℕ} → OnTable rows K → IsSkeleton (means (term rows) K) → IsSetOf K.uniq members
+  -- a term that is no member
+  pub starts_out : {n : ℕ} {origins : List (Option Code.Node)} → StartsBelow rows K members n origins → mem members n ≡ false
+      → StartsBelow rows K members (n + 1) origins
+  starts_out {n} {origins} so_far e =
+      record {
+        at = below_more (λ i. mem members i ≡ true → StartsAt rows K i (get_or origins i None)) n so_far.at
+            (λ m. absurd (true≢false (sym m ∙ e)));
+      }
+
+  pub all_origins : {n : ℕ} {origins : List (Option Code.Node)} → OnTable rows K → IsSkeleton (means (term rows) K)
+      → IsSetOf K.uniq members
       → length rows ≤ n
       → StartsBelow rows K members n origins
       → IsOrigins rows K origins
@@ -107,10 +86,8 @@ module _ {rows : List Row} {K : Skeleton ℕ} {members : TermSet} where
       record {
         at = λ i m.
             let listed = Memᴰ.map (term rows) m in
-            let (n, o) = right.an_origin (term rows i) listed in (
-              n,
-              o,
-              ((so_far.at i (omega (arith, ok.uniqs i m))).starts ((atoms.at i).1 m)).at n o
-                  (λ x p. right.one_origin (term rows i) listed x n p o),
-            );
+            let (n, o) = right.an_origin (term rows i) listed in
+            let (c, is, e) = (so_far.at i (omega (arith, ok.uniqs i m)) ((atoms.at i).1 m)).at n o
+            (λ x p. right.one_origin (term rows i) listed x n p o) in
+            (c, rw e o, is);
       }

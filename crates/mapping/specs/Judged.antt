@@ -1,25 +1,32 @@
 -- What the judgement of a strand map asks, and what it says.
-use Rattle.std.specs.Prelude.{◌≡◌, true, List, ℕ, suc, T, length}
+use Rattle.std.specs.Prelude.{◌≡◌, true, List, ℕ, T, length, Option, Some, None, Result, Ok, Err}
 use Rattle.terms.specs.Set.{IsSetOf}
 use Rattle.model.specs.Table.{Row, term}
 use Rattle.model.specs.Reading.{an_atom}
 use Rattle.model.specs.Skeleton.{Skeleton, means}
+use Rattle.model.specs.Sheet.{Drawing}
 use Rattle.model.specs.Subst.{Subst}
 use Rattle.model.specs.Maps.{Kept, FirstBroken}
+use Rattle.model.specs.Answers.{HasSkeletons}
+use Rattle.model.specs.Says.{rule_number}
+use Rattle.model.specs.declared.Rule.{Rule}
 use Rattle.theory.specs.Each.{Each}
 use Rattle.theory.specs.Skeletons.{IsSkeleton}
-use Rattle.tables.specs.Tables.{rows_in, skeleton_at}
+use Rattle.tables.specs.Layout.{block}
+use Rattle.tables.specs.Tables.{rows_in, skeleton_at, sheet_in}
+use Rattle.tables.specs.Drawn.{drawing, Drawn}
+use Rattle.keys.specs.Inverted.{Inverted}
 use Rattle.order.specs.Precedence.{Shows, Ordered}
 use Rattle.matching.specs.Matches.{Matches}
 use Rattle.maps.specs.Rules.{IsOrigins}
-use Rattle.tables.specs.Drawn.{Drawn}
-use Rattle.maps.specs.Images.{Inverses}
-use Rattle.mapping.specs.declared.Atoms.{Atoms}
+use Rattle.mapping.specs.declared.prepared.Atoms.{Atoms}
+use Rattle.mapping.specs.declared.prepared.Prepared.{Prepared}
 
--- the sets are those of the skeleton's NO and UO atoms
-pub record AtomsAre (K : Skeleton ℕ) (sets : Atoms) : Type 0 where
-  pub nons : IsSetOf K.non sets.nons
-  pub uniqs : IsSetOf K.uniq sets.uniqs
+-- the sets are those of the skeleton's NO and UO atoms, and the origins those of its UO atoms
+pub record AtomsAre (rows : List Row) (K : Skeleton ℕ) (atoms : Atoms) : Type 0 where
+  pub nons : IsSetOf K.non atoms.nons
+  pub uniqs : IsSetOf K.uniq atoms.uniqs
+  pub origins : IsOrigins rows K atoms.origins
 
 -- the skeleton obeys the skeleton rules
 abbrev pub IsRight : List Row → Skeleton ℕ → Type 0
@@ -32,24 +39,34 @@ pub record Asked (t inverses : List ℕ) (a b : ℕ) : Type 0 where
   pub source_right : IsRight (rows_in t) (skeleton_at t a)
   pub target_right : IsRight (rows_in t) (skeleton_at t b)
   pub ordered : Ordered t b
-  pub inverses_are : Inverses t inverses
+  pub inverted : Inverted (rows_in t) inverses
+  pub inverses_long : length inverses ≡ 200
   pub nons : Each (λ x. T (an_atom (rows_in t) x)) (skeleton_at t a).non
   pub uniqs : Each (λ x. T (an_atom (rows_in t) x)) (skeleton_at t a).uniq
 
 -- the target's precedence, the atoms of both, and where their UO atoms originate
-pub record Prepared (t inverses : List ℕ) (a b : ℕ) (before : List ℕ) (from to : Atoms) (starts ends : List ℕ) : Type 0 where
-  pub asked : Asked t inverses a b
-  pub matrix : Shows (skeleton_at t b) before
-  pub matrix_long : length before ≡ 192
-  pub source_atoms : AtomsAre (skeleton_at t a) from
-  pub target_atoms : AtomsAre (skeleton_at t b) to
-  pub source_origins : IsOrigins (rows_in t) (skeleton_at t a) starts
-  pub starts_long : length starts ≡ 200
-  pub target_origins : IsOrigins (rows_in t) (skeleton_at t b) ends
-  pub ends_long : length ends ≡ 200
+pub record IsPrepared (p : Prepared) : Type 0 where
+  pub asked : Asked p.sides.table.now p.inverses.now.of p.sides.source p.sides.target
+  pub matrix : Shows (skeleton_at p.sides.table.now p.sides.target) p.before.words
+  pub source_atoms : AtomsAre (rows_in p.sides.table.now) (skeleton_at p.sides.table.now p.sides.source) p.from
+  pub target_atoms : AtomsAre (rows_in p.sides.table.now) (skeleton_at p.sides.table.now p.sides.target) p.to
 
--- the first broken rule, or 0 and the images
-pub data JudgedAs (rows : List Row) (A B : Skeleton ℕ) (map images : List ℕ) : ℕ → Type 0 where
+-- the judgement of the maps between two skeletons of the sheet in the table t is prepared
+pub record PreparedFor (t : List ℕ) (source target : ℕ) (p : Prepared) : Type 0 where
+  pub prepared : IsPrepared p
+  pub table : p.sides.table.now ≡ t
+  pub from : p.sides.source ≡ block source
+  pub to : p.sides.target ≡ block target
+  pub there : HasSkeletons source target (sheet_in t) (drawing t (block source), drawing t (block target))
+
+-- the same, or that the sheet has not both
+abbrev pub PreparedAs : List ℕ → ℕ → ℕ → Option Prepared → Type 0
+PreparedAs t source target (Some p) = PreparedFor t source target p
+PreparedAs t source target None = (x : Drawing × Drawing) → ¬ HasSkeletons source target (sheet_in t) x
+
+-- the first broken rule, or the images
+pub data JudgedAs (rows : List Row) (A B : Skeleton ℕ) (map images : List ℕ) : Result (Unit {0}) Rule → Type 0 where
   holds : {σ : Subst} → Kept (means (term rows) A) (means (term rows) B) map 6 σ → Matches rows A B map images true
-      → JudgedAs rows A B map images 0
-  broken : {k : ℕ} → FirstBroken (means (term rows) A) (means (term rows) B) map (suc k) → JudgedAs rows A B map images (suc k)
+      → JudgedAs rows A B map images (Ok tt)
+  broken : {rule : Rule} → FirstBroken (means (term rows) A) (means (term rows) B) map (rule_number rule)
+      → JudgedAs rows A B map images (Err rule)

@@ -1,13 +1,13 @@
 -- The row of a kind with its arguments, and the images of atoms. Assumes nothing.
 use mathlib.Core.Path.{◌≡◌, refl, sym, ap, ap₂, ◌∙◌}
-use mathlib.Core.Bool.{true, false, ◌&&◌}
+use mathlib.Core.Bool.{true, false}
 use mathlib.Core.List.{List}
-use mathlib.Core.Logic.{◌↔◌, ◌≢◌}
+use mathlib.Core.Logic.{◌≢◌}
 use Prim.Native.Nat.{ℕ, ◌+◌, ◌<◌, ◌≤◌}
 use native.Mathlib.Omega.{arith}
-use lib.Dec.{T, eqb, ltb, leb, lt→ltb}
+use lib.Dec.{T, ltb, leb, lt→ltb}
 use lib.ListN.{length}
-use borrow.Author.Tests.{eq-eqb, eqb-true}
+use Rattle.std.proofs.Common.{Option, Some, None}
 use Rattle.terms.specs.declared.Term as Number
 use Rattle.model.specs.Term.{Asym, ltk, pubk, name, symmetric, asymmetric, Term, mesg, atom, inv, flip}
 use Rattle.model.specs.Carry.{Occurs, in_inverse, in_pubk, in_ltk_left, in_ltk_right}
@@ -15,45 +15,32 @@ use Rattle.model.specs.Subst.{Subst, turned, on_sym, on_asym, on_atom, apply, Va
 use Rattle.model.specs.Table.{Row, Text, Datum, Name, Skey, Akey, Pubk, Inv, Ltk, row, kind, first, second, is_atom, name_of, meaning, term}
 use Rattle.model.specs.Reading.{an_atom}
 use Rattle.tables.proofs.Look.{count_is, row_in, kind_is}
-use Rattle.theory.specs.Tests.{both, pair_up, both_true}
+use Rattle.theory.specs.Tests.{both, pair_up}
 use Rattle.theory.specs.Parts.{occurs_after}
 use Rattle.model.proofs.Laws.{inv-inv}
 use Rattle.model.proofs.Laws.{inv_apply}
-use Rattle.theory.specs.GoodTable.{IsName, IsKey, an_akey, a_pubk, Earlier, Sorted}
+use Rattle.theory.specs.GoodTable.{Good, IsName, IsKey, an_akey, a_pubk, Earlier, Sorted}
 use Rattle.theory.specs.Numbers.{row_of, term_law, law, number, number_term, name_shown, key_shown}
 use Rattle.theory.specs.Numbers as Numbers
 use Rattle.theory.specs.OnSheet.{OnSheet, on_inverse}
 use Rattle.theory.specs.Reach.{inverse_at, inverse_law}
 use Rattle.tables.specs.Layout.{firsts, seconds, term_count}
-use Rattle.tables.specs.Tables.{byte, the_row, row_at, rows_in}
+use Rattle.tables.specs.Tables.{byte, the_row, row_at, rows_in, Filled}
+use Rattle.tables.specs.Rows.{IsRow, LooksUp, found, missing}
 use Rattle.keys.specs.Inverted.{Inverted}
 use Rattle.keys.proofs.Rows.{EarlierBytes, earlier_bytes}
-use Rattle.maps.specs.declared.Image.{Image}
-use Rattle.maps.specs.Images.{IsRow, LooksUp, found, missing, Ready, IsImage, on, off, Gives, Known, Imaged}
-
--- The test of a row
-
-pub row_test : (t : List ℕ) (k a b i : ℕ)
-    → (((eqb (byte t i) k && eqb (byte t (firsts + i)) a) && eqb (byte t (seconds + i)) b) ≡ true) ↔ IsRow t k a b i
-row_test t k a b i = (
-  λ e.
-      let p = both_true (eqb (byte t i) k && eqb (byte t (firsts + i)) a) _ e in
-      let q = both_true (eqb (byte t i) k) _ p.0 in
-      record { kind = eqb-true _ _ q.0; first = eqb-true _ _ q.1; second = eqb-true _ _ p.1 },
-  λ r. rw (eq-eqb (byte t i) k r.kind, eq-eqb (byte t (firsts + i)) a r.first)
-      (eq-eqb (byte t (seconds + i)) b r.second),
-)
+use Rattle.maps.specs.Images.{IsImage, on, off, Gives, Known, Imaged}
 
 -- What an image says
 
 module _ {rows : List Row} {t : Term} where
-  pub on_sheet : {i : Number.Term} → IsImage rows t (Image.On i) → (i.0 < length rows) × (term rows i.0 ≡ t)
+  pub on_sheet : {i : Number.Term} → IsImage rows t (Some i) → (i.0 < length rows) × (term rows i.0 ≡ t)
   on_sheet (on h e) = (h, e)
 
-  pub off_sheet : IsImage rows t Image.Off → ¬ OnSheet rows t
+  pub off_sheet : IsImage rows t None → ¬ OnSheet rows t
   off_sheet (off n) = n
 
-same_number : {i j : Number.Term} → Image.On i ≡ Image.On j → i.0 ≡ j.0
+same_number : {i j : Number.Term} → Some i ≡ Some j → i.0 ≡ j.0
 same_number {i} {j} e = let z : i ≡ j = cc in ap (λ (n : Number.Term). n.0) z
 
 -- The sorts of rows
@@ -87,7 +74,7 @@ in_its_inverse k {s} {u} z e =
     let m : u ≡ atom (asymmetric true k) = e ∙ ap inv z in
     rw (z, m) (Occurs.inside in_inverse Occurs.here)
 
-module _ {t images : List ℕ} (ready : Ready t images) where
+module _ {t : List ℕ} (filled : Filled t) (good : Good (rows_in t)) (images : List ℕ) where
   abbrev rows : List Row
   rows = rows_in t
 
@@ -97,7 +84,7 @@ module _ {t images : List ℕ} (ready : Ready t images) where
 
   row_has : (i : ℕ) → i < byte t term_count → {r : Row} → row rows i ≡ r → IsRow t (kind r) (first r) (second r) i
   row_has i h {r} e =
-      let c = ready.filled.encoded i h in
+      let c = filled.encoded i h in
       let q : row_at t i ≡ r = sym (row_in t i h) ∙ e in
       record {
         kind = sym c.kind_is ∙ ap kind q;
@@ -107,24 +94,24 @@ module _ {t images : List ℕ} (ready : Ready t images) where
 
   -- A term that was looked up
 
-  looked_inside : {k a b : ℕ} {r : Image} → LooksUp t k a b r → (i : ℕ) → r ≡ Image.On (record { 0 = i }) → i < length rows
+  looked_inside : {k a b : ℕ} {r : Option Number.Term} → LooksUp t k a b r → (i : ℕ) → r ≡ Some (record { 0 = i }) → i < length rows
   looked_inside (found {i = j} h is) i e = omega (arith, h, count_is t, same_number e)
   looked_inside (missing n) i e = let z : ◌≡◌ {A = ℕ} 0 1 = cc in absurd (omega arith)
 
-  looked : {w : Term} {r : Image} (q : Row) → the_row (kind q) (first q) (second q) ≡ q
+  looked : {w : Term} {r : Option Number.Term} (q : Row) → the_row (kind q) (first q) (second q) ≡ q
       → LooksUp t (kind q) (first q) (second q) r
       → meaning (term rows) q ≡ w
       → ((s : OnSheet rows w) → row rows s.which ≡ q)
       → IsImage rows w r
   looked q z (found {i} h is) e f =
-      let l : i < length rows = omega (arith, count_is t) in on l (law rows ready.good i l (row_found h is ∙ z) ∙ e)
+      let l : i < length rows = omega (arith, count_is t) in on l (law rows good i l (row_found h is ∙ z) ∙ e)
   looked q z (missing n) e f =
       off (λ s. let h : s.which < byte t term_count = omega (arith, s.inside, count_is t) in n s.which h
       (row_has s.which h (f s)))
 
   -- an image has a number below 200
-  pub image_low : {a : ℕ} {r : Image} → Imaged rows images a r → (i : Number.Term) → r ≡ Image.On i → i.0 < 200
-  image_low image i e = omega (arith, image.inside i.0 e, count_is t, ready.filled.terms)
+  pub image_low : {a : ℕ} {r : Option Number.Term} → Imaged rows images a r → (i : Number.Term) → r ≡ Some i → i.0 < 200
+  image_low image i e = omega (arith, image.inside i.0 e, count_is t, filled.terms)
 
   module _ (a : ℕ) (h : a < byte t term_count) where
     here : a < length rows
@@ -132,21 +119,21 @@ module _ {t images : List ℕ} (ready : Ready t images) where
 
     -- An image that is known
 
-    pub known_image : byte images a < byte t term_count → Imaged rows images a (Image.On (record { 0 = byte images a }))
+    pub known_image : byte images a < byte t term_count → Imaged rows images a (Some (record { 0 = byte images a }))
     known_image l =
         let k : byte images a < length rows = rw (count_is t) l in
         record { is = λ σ g _. on k (g.image a here k); inside = λ i e. omega (arith, same_number e) }
 
     -- A variable's image is known
 
-    pub no_image : byte t term_count ≤ byte images a → byte t a ≢ 7 → byte t a ≢ 8 → byte t a ≢ 9 → Imaged rows images a Image.Off
+    pub no_image : byte t term_count ≤ byte images a → byte t a ≢ 7 → byte t a ≢ 8 → byte t a ≢ 9 → Imaged rows images a None
     unfolding an_atom
     no_image n p q s =
         record {
           is = λ σ g k.
-              let e = kind_is t a ready.filled h in
+              let e = kind_is t a filled h in
               let atom = (both (ltb a (length rows)) _ k.atom).1 in
-              let v : Variable (term rows a) = rw (term_law rows ready.good a here)
+              let v : Variable (term rows a) = rw (term_law rows good a here)
               (variable_row (term rows) (row rows a) atom (λ z. p (sym e ∙ z)) (λ z. q (sym e ∙ z)) (λ z. s (sym e ∙ z))) in
               absurd (omega (arith, count_is t, k.variables a here v Occurs.here));
           inside = λ i e. let z : ◌≡◌ {A = ℕ} 0 1 = cc in absurd (omega arith);
@@ -165,24 +152,24 @@ module _ {t images : List ℕ} (ready : Ready t images) where
         → Named σ x
     unfolding apply on_atom
     named {σ} g k x l n o =
-        let e : atom (name (name_of (term rows x))) ≡ term rows x = name_shown (term rows) n (term_law rows ready.good x l) in
+        let e : atom (name (name_of (term rows x))) ≡ term rows x = name_shown (term rows) n (term_law rows good x l) in
         let c : byte images x < length rows = k.variables x l (rw (← e) Variable.a_name) (rw (← e) o) in
         let i : term rows (byte images x) ≡ atom (name (σ.to_name (name_of (term rows x)))) =
         g.image x l c ∙ ap (apply σ) (sym e) in
-        record { inside = c; is = i; numbered = ap (number rows) (sym i) ∙ number_term rows ready.good (byte images x) c }
+        record { inside = c; is = i; numbered = ap (number rows) (sym i) ∙ number_term rows good (byte images x) c }
 
     -- the row that the image of a must have
     row_at_image : {w : Term} (s : OnSheet rows w) → row rows s.which ≡ row_of (number rows) w
-    row_at_image s = Numbers.row_is rows ready.good s.which s.inside ∙ ap (row_of (number rows)) s.means
+    row_at_image s = Numbers.row_is rows good s.which s.inside ∙ ap (row_of (number rows)) s.means
 
-    pub public_image : {r : Image} → byte t a ≡ 7 → LooksUp t 7 (byte images (byte t (firsts + a))) 0 r → Imaged rows images a r
+    pub public_image : {r : Option Number.Term} → byte t a ≡ 7 → LooksUp t 7 (byte images (byte t (firsts + a))) 0 r → Imaged rows images a r
     unfolding the_row Earlier Sorted meaning apply on_atom on_asym turned row_of name_of kind first second
     public_image {r} e up =
         let x = byte t (firsts + a) in
         let q : row rows a ≡ Pubk x = row_in t a h ∙ rw e in
-        let l : x < a = rw q at (ready.good.earlier a here) in
-        let n : IsName (row rows x) = rw q at (ready.good.sorted a here) in
-        let m : term rows a ≡ atom (asymmetric false (pubk (name_of (term rows x)))) = law rows ready.good a here q in
+        let l : x < a = rw q at (good.earlier a here) in
+        let n : IsName (row rows x) = rw q at (good.sorted a here) in
+        let m : term rows a ≡ atom (asymmetric false (pubk (name_of (term rows x)))) = law rows good a here q in
         record {
           is = λ σ g k.
               let y = named g k x (omega (arith, here)) n (rw m (Occurs.inside in_pubk Occurs.here)) in
@@ -190,7 +177,7 @@ module _ {t images : List ℕ} (ready : Ready t images) where
           inside = looked_inside up;
         }
 
-    pub long_term_image : {r : Image} → byte t a ≡ 9
+    pub long_term_image : {r : Option Number.Term} → byte t a ≡ 9
         → LooksUp t 9 (byte images (byte t (firsts + a))) (byte images (byte t (seconds + a))) r
         → Imaged rows images a r
     unfolding the_row Earlier Sorted meaning apply on_atom on_sym row_of name_of kind first second
@@ -198,10 +185,10 @@ module _ {t images : List ℕ} (ready : Ready t images) where
         let x = byte t (firsts + a) in
         let y = byte t (seconds + a) in
         let q : row rows a ≡ Ltk x y = row_in t a h ∙ rw e in
-        let l : (x < a) × (y < a) = rw q at (ready.good.earlier a here) in
-        let n : IsName (row rows x) × IsName (row rows y) = rw q at (ready.good.sorted a here) in
+        let l : (x < a) × (y < a) = rw q at (good.earlier a here) in
+        let n : IsName (row rows x) × IsName (row rows y) = rw q at (good.sorted a here) in
         let m : term rows a ≡ atom (symmetric (ltk (name_of (term rows x)) (name_of (term rows y)))) =
-        law rows ready.good a here q in
+        law rows good a here q in
         record {
           is = λ σ g k.
               let u = named g k x (omega (arith, here)) n.0 (rw m (Occurs.inside in_ltk_left Occurs.here)) in
@@ -214,7 +201,7 @@ module _ {t images : List ℕ} (ready : Ready t images) where
     -- The inverse of a key, by the image of the key
 
     pub args_low : {k : ℕ} → byte t a ≡ k → T (leb 7 k) → EarlierBytes t a
-    args_low e l = earlier_bytes t a ready.filled h (ready.good.earlier a here) (rw e l)
+    args_low e l = earlier_bytes t a filled h (good.earlier a here) (rw e l)
 
     module _ (e : byte t a ≡ 8) where
       abbrev key : ℕ
@@ -229,20 +216,20 @@ module _ {t images : List ℕ} (ready : Ready t images) where
 
       is_key : IsKey (row rows key)
       unfolding Sorted
-      is_key = rw inverse_row at (ready.good.sorted a here)
+      is_key = rw inverse_row at (good.sorted a here)
 
       pub key_plain : byte t key ≢ 8
-      key_plain z = no_inverse is_key (kind_is t key ready.filled (rw (← count_is t) key_low) ∙ z)
+      key_plain z = no_inverse is_key (kind_is t key filled (rw (← count_is t) key_low) ∙ z)
 
       inverse_term : term rows a ≡ inv (term rows key)
       unfolding meaning
-      inverse_term = law rows ready.good a here inverse_row
+      inverse_term = law rows good a here inverse_row
 
       -- the key of an atom that is known
       known_key : Known rows images a → Known rows images key
       unfolding an_atom
       known_key k =
-          let (y, z) = key_shown (term rows) is_key (term_law rows ready.good key key_low) in
+          let (y, z) = key_shown (term rows) is_key (term_law rows good key key_low) in
           record {
             atom = pair_up (ltb key (length rows)) (is_atom (row rows key)) (lt→ltb key (length rows) key_low) (key_atom is_key);
             variables = λ x l v o. k.variables x l v (occurs_after o (in_its_inverse y z inverse_term));
@@ -250,15 +237,15 @@ module _ {t images : List ℕ} (ready : Ready t images) where
 
       inverse_goes : (σ : Subst) → inv (apply σ (term rows key)) ≡ apply σ (term rows a)
       inverse_goes σ =
-          let (y, z) = key_shown (term rows) is_key (term_law rows ready.good key key_low) in
+          let (y, z) = key_shown (term rows) is_key (term_law rows good key key_low) in
           let keyish : (n : ℕ) → term rows key ≢ mesg n = λ n e. let y : ◌≡◌ {A = ℕ} 0 1 = cc in omega arith in
           inv_apply σ (term rows key) keyish ∙ ap (apply σ) (sym inverse_term)
 
-      pub inverse_on : {inverses : List ℕ} {i : Number.Term} → Inverted rows inverses → Imaged rows images key (Image.On i)
-          → Imaged rows images a (Image.On (record { 0 = byte inverses i.0 }))
+      pub inverse_on : {inverses : List ℕ} {i : Number.Term} → Inverted rows inverses → Imaged rows images key (Some i)
+          → Imaged rows images a (Some (record { 0 = byte inverses i.0 }))
       inverse_on {inverses} {i} inverted image =
           let l : i.0 < length rows = image.inside i.0 refl in
-          let law = inverse_law rows ready.good i.0 l in
+          let law = inverse_law rows good i.0 l in
           let q : byte inverses i.0 ≡ inverse_at rows i.0 = inverted.at i.0 l in
           let k : byte inverses i.0 < length rows = rw q law.inside in
           record {
@@ -268,10 +255,10 @@ module _ {t images : List ℕ} (ready : Ready t images) where
             inside = λ j z. omega (arith, same_number z);
           }
 
-      pub inverse_off : Imaged rows images key Image.Off → Imaged rows images a Image.Off
+      pub inverse_off : Imaged rows images key None → Imaged rows images a None
       inverse_off image =
           record {
             is = λ σ g known. off (λ s. off_sheet (image.is σ g (known_key known)) (rw (inv-inv _)
-                at (on_inverse rows ready.good _ (rw (← inverse_goes σ) at s))));
+                at (on_inverse rows good _ (rw (← inverse_goes σ) at s))));
             inside = λ j z. let y : ◌≡◌ {A = ℕ} 0 1 = cc in absurd (omega arith);
           }

@@ -1,15 +1,17 @@
 -- Rules 1, 2 and 4 by the bytes of a table: the blocks at a and b, and a strand map. Assumes nothing.
-use mathlib.Core.Path.{◌≡◌, refl, ◌∙◌, sym}
+use mathlib.Core.Path.{◌≡◌, refl, ap, subst, ◌∙◌, sym}
 use mathlib.Core.Bool.{Bool, true, false}
 use mathlib.Core.Logic.{◌↔◌}
 use mathlib.Core.List.Memᴰ
 use mathlib.Core.List.{List, Memᴰ}
-use Prim.Native.Nat.{ℕ, zero, suc, ◌+◌, ◌*◌, ◌<◌, ◌≤◌}
+use Prim.Native.Nat.{ℕ, zero, suc, ◌+◌, ◌*◌, ◌<◌}
 use native.Mathlib.Omega.{arith}
 use native.Mathlib.Decide.{dec_lt}
 use lib.Dec.{eqb}
 use lib.ListN.{length, get_or}
 use borrow.Author.Tests.{eqb-true, ne_eqb}
+use Rattle.terms.specs.declared.Node as Numbered
+use Rattle.model.specs.Says.{node_of}
 use Rattle.model.specs.Term.{Term, tag}
 use Rattle.model.specs.Table.{term}
 use Rattle.model.specs.Skeleton.{send, Node, Skeleton, At, trace, height, means, on_message}
@@ -22,7 +24,7 @@ use Rattle.theory.specs.Precedence as Precedence
 use Rattle.theory.specs.Precedence.{all_steps, edges}
 use Rattle.theory.specs.Happenings.{at_means, at_meant, before_means, before_meant}
 use Rattle.tables.specs.Layout.{strand_count, order_count, heights, directions, orders}
-use Rattle.tables.specs.Tables.{byte, rows_in, skeleton_at}
+use Rattle.tables.specs.Tables.{byte, node_at, rows_in, skeleton_at}
 use Rattle.tables.specs.Nodes.{direction_at, message_at, There}
 use Rattle.tables.proofs.Look.{length_strands}
 use Rattle.tables.proofs.Nodes.{strands_meant, stands_at, at_stands, pair_at, pair_in, pair_of}
@@ -30,7 +32,7 @@ use Rattle.order.specs.Precedence.{on, code, Low, Shows}
 use Rattle.matching.specs.Matches.{Laid}
 use Rattle.maps.specs.Rules.{KeptTo1, Tells1}
 use Rattle.tables.specs.Drawn.{Drawn}
-use Rattle.maps.specs.Strands.{AllBelow, SameDirections, StrandKept, moved_at}
+use Rattle.maps.specs.Strands.{StrandKept}
 use Rattle.maps.proofs.Answers.{refused}
 
 -- Equal directions, of two events by their bytes
@@ -51,13 +53,9 @@ event_same f (suc c) (suc d) m n s = ne_eqb (suc c) 0 (λ e. omega arith) ∙ sy
 event_same f zero (suc d) m n s = elim s [ ]
 event_same f (suc c) zero m n s = elim s [ ]
 
--- A strand that goes to one that is high enough
-pub strand_told : {t : List ℕ} {a b s u h : ℕ} {r : Bool} → h ≡ byte t (a + heights + s) → h ≤ byte t (b + heights + u)
-    → (r ≡ true) ↔ SameDirections t (a + directions + 16 * s) (b + directions + 16 * u) h → (r ≡ true) ↔ StrandKept t a b s u
-strand_told e l test = (
-  λ q. record { high = omega arith; same = rw e at (test.0 q) },
-  λ k. test.1 (rw e k.same),
-)
+-- where the node at i goes
+abbrev pub moved_at : List ℕ → List ℕ → ℕ → Node
+moved_at t map i = move (λ s. get_or map s 0) (node_at t i)
 
 -- a node of an OR pair, and where it goes
 pub record End (t map : List ℕ) (i : ℕ) : Type 0 where
@@ -108,14 +106,14 @@ module _ (t : List ℕ) (a b : ℕ) (map : List ℕ) where
 
   -- Rule 1
 
-  pub one_told : {r : Bool} → length map ≡ byte t (a + strand_count) → (r ≡ true) ↔ AllBelow map (byte t (b + strand_count))
-      → Tells1 (rows_in t) A B map r
+  pub one_told : {r : Bool} → length map ≡ byte t (a + strand_count)
+      → (r ≡ true) ↔ ((s : ℕ) → s < length map → to s < byte t (b + strand_count)) → Tells1 (rows_in t) A B map r
   one_told e test = (
     λ q. record {
       full = e ∙ sym (strands_meant t a means_term);
-      inside = λ s h. rw (strands_meant t b means_term) ((test.0 q).at s h);
+      inside = λ s h. rw (strands_meant t b means_term) (test.0 q s h);
     },
-    λ o. test.1 (record { at = λ s h. rw (strands_meant t b means_term) at (o.inside s h) }),
+    λ o. test.1 (λ s h. rw (strands_meant t b means_term) at (o.inside s h)),
   )
 
   pub one_refused : ¬ (length map ≡ byte t (a + strand_count)) → Tells1 (rows_in t) A B map false
@@ -198,6 +196,43 @@ module _ (t : List ℕ) (a b : ℕ) (map : List ℕ) where
   -- the k-th OR pair is kept
   abbrev pub PairKept : ℕ → Type 0
   PairKept k = Before B (moved_at t map (a + orders + 4 * k)) (moved_at t map (a + orders + 4 * k + 2))
+
+  -- the nodes x and y are those of the OR pair k: where they go
+  pub record Ends (k : ℕ) (x y : Numbered.Node) : Type 0 where
+    pub here : k < byte t (a + order_count)
+    pub first : x.strand.0 < length map
+    pub second : y.strand.0 < length map
+    pub first_low : Low (move to (node_of x))
+    pub second_low : Low (move to (node_of y))
+    pub first_goes : move to (node_of x) ≡ moved_at t map (a + orders + 4 * k)
+    pub second_goes : move to (node_of y) ≡ moved_at t map (a + orders + 4 * k + 2)
+
+  -- the OR pair k as a drawing of the source's block reads it
+  pub pair_ends : Drawn t a → Drawn t b → KeptTo1 (rows_in t) A B map → {t' : List ℕ} {a' k n : ℕ} → (t' ≡ t) × (a' ≡ a)
+      → n ≡ byte t' (a' + order_count)
+      → k < n
+      → {x y : Numbered.Node}
+      → node_of x ≡ node_at t' (a' + orders + 4 * k)
+      → node_of y ≡ node_at t' (a' + orders + 4 * k + 2)
+      → Ends k x y
+  unfolding node_of
+  pair_ends source target one {k = k} same counted h leaves arrives =
+      let count = rw (same.0, same.1) at counted in
+      let low : k < byte t (a + order_count) = omega arith in
+      let start = first_end one source target k low in
+      let finish = second_end one source target k low in
+      let is_first = rw (same.0, same.1) at leaves in
+      let is_second = rw (same.0, same.1) at arrives in
+      let LowAfter : Node → Type 0 = λ n. Low (move to n) in
+      record {
+        here = low;
+        first = rw (ap (λ (m : Node). m.strand) is_first) start.strand;
+        second = rw (ap (λ (m : Node). m.strand) is_second) finish.strand;
+        first_low = subst LowAfter (sym is_first) start.low;
+        second_low = subst LowAfter (sym is_second) finish.low;
+        first_goes = ap (move to) is_first;
+        second_goes = ap (move to) is_second;
+      }
 
   pub pairs_kept : Rule2 (means means_term A) (means means_term B) to → ((k : ℕ) → k < byte t (a + order_count) → PairKept k)
       → Rule4 (means means_term A) (means means_term B) to

@@ -1,97 +1,69 @@
 -- Rules 5 and 6, atom by atom. Assumes nothing.
 use mathlib.Core.Path.{◌≡◌, refl, sym, ap, ◌∙◌}
-use mathlib.Core.Bool.{Bool, true, false, true≢false, ◌&&◌}
+use mathlib.Core.Bool.{Bool, true, false, true≢false}
 use mathlib.Core.List.Memᴰ
 use mathlib.Core.List.{List}
 use mathlib.Core.Logic.{◌↔◌}
-use Prim.Native.Nat.{ℕ, ◌+◌, ◌*◌, ◌/◌, ◌%◌, ◌<◌, ◌≤◌}
+use Prim.Native.Nat.{ℕ, ◌<◌, ◌≤◌}
 use native.Mathlib.Omega.{arith}
 use lib.Dec.{T}
 use lib.ListN.{length, get_or}
-use borrow.Author.Count.{below_none, below_more}
+use Rattle.std.proofs.Common.{Option, Some, None}
 use Rattle.terms.specs.declared.Term as Number
+use Rattle.terms.specs.declared.Node as Numbered
 use Rattle.terms.specs.declared.TermSet.{TermSet}
 use Rattle.terms.specs.Set.{mem, IsSetOf}
 use Rattle.model.specs.Term.{Term}
 use Rattle.model.specs.Subst.{Subst, apply}
 use Rattle.model.specs.Table.{Row, term}
 use Rattle.model.specs.Reading.{an_atom}
-use Rattle.model.specs.Skeleton.{Node, Skeleton, means}
-use Rattle.model.specs.Events.{Origin}
+use Rattle.model.specs.Skeleton.{Skeleton, means}
+use Rattle.model.specs.Says.{node_of}
 use Rattle.model.specs.Maps.{move, Rule5, Rule6}
-use Rattle.theory.specs.Tests.{was_no, both_true}
 use Rattle.tables.proofs.Look.{count_is}
 use Rattle.theory.specs.GoodTable.{Good}
 use Rattle.theory.specs.Numbers.{term_injective}
 use Rattle.theory.specs.OnSheet.{OnSheet}
-use Rattle.theory.specs.Happenings.{at_meant}
-use Rattle.theory.specs.Precedence as Precedence
 use Rattle.theory.proofs.Faults.{occurs_test}
 use Rattle.theory.specs.MapLaws.{VariablesOccur, AtomsOccur, skeleton_atoms}
 use Rattle.tables.specs.Layout.{term_count}
-use Rattle.tables.specs.Tables.{byte, rows_in}
+use Rattle.tables.specs.Tables.{byte, rows_in, Filled}
 use Rattle.matching.specs.Matches.{Takes}
-use Rattle.maps.specs.declared.Image.{Image}
 use Rattle.maps.specs.Rules.{Tells5, Tells6, IsOrigins}
-use Rattle.maps.specs.Images.{Ready, Gives, Known, Imaged}
-use Rattle.maps.specs.Atoms.{In, Moved, Asks, GoesIn, OriginGoes, Matched, Judges5, Judges6}
+use Rattle.maps.specs.Images.{Gives, Known, Imaged}
+use Rattle.maps.specs.Atoms.{In, Goes, Moved, GoesIn, OriginGoes, Finds, Matched, Judges5, Judges6}
 use Rattle.maps.proofs.Answers.{granted, refused}
 use Rattle.maps.proofs.Found.{on_sheet, off_sheet}
 
--- One atom
+-- An atom with its image
 
-module _ {rows : List Row} {images : List ℕ} {from : TermSet} {a : ℕ} where
-  -- no member of the set
-  pub asks_out : {P : Subst → ℕ → Type 0} → mem from a ≡ false → Asks rows images from P a true
-  asks_out e = record { is = λ σ g k. granted (λ m. absurd (true≢false (sym m ∙ e))) }
+module _ {rows : List Row} (good : Good rows) (σ : Subst) (a i : ℕ) (h : i < length rows)
+    (means : term rows i ≡ apply σ (term rows a)) (to : TermSet) {r : Bool} where
+  pub goes_on : r ≡ mem to i → (r ≡ true) ↔ GoesIn rows to σ a
+  goes_on e = (
+    λ q. record { which = i; inside = h; member = sym e ∙ q; means = means },
+    λ w.
+        let z : w.which ≡ i = term_injective rows good w.which i w.inside h (w.means ∙ sym means) in
+        e ∙ (ap (mem to) (sym z) ∙ w.member),
+  )
 
-  module _ (good : Good rows) (member : mem from a ≡ true) where
-    -- an image that is not on the sheet
-    pub asks_off : {P : Subst → ℕ → Type 0} → ((σ : Subst) → P σ a → OnSheet rows (apply σ (term rows a)))
-        → Imaged rows images a Image.Off
-        → Asks rows images from P a false
-    asks_off there image =
-        record { is = λ σ g k. refused (λ f. off_sheet (image.is σ g (k a member)) (there σ (f member))) }
-
-    module _ {to : TermSet} {i : Number.Term} (image : Imaged rows images a (Image.On i)) where
-      -- an image that is
-      pub goes_on : {r : Bool} → r ≡ mem to i.0 → Asks rows images from (GoesIn rows to) a r
-      goes_on e =
-          record {
-            is = λ σ g k.
-                let (h, m) = on_sheet (image.is σ g (k a member)) in (
-                  λ q _. record { which = i.0; inside = h; member = sym e ∙ q; means = m },
-                  λ f.
-                      let w = f member in
-                      let z : w.which ≡ i.0 = term_injective rows good w.which i.0 w.inside h (w.means ∙ sym m) in
-                      e ∙ (ap (mem to) (sym z) ∙ w.member),
-                );
-          }
-
-      pub origin_on : (map origins targets : List ℕ) {b r : Bool} → b ≡ mem to i.0
-          → (r ≡ true) ↔ (16 * get_or map (byte origins a / 16) 0 + byte origins a % 16 ≡ byte targets i.0)
-          → Asks rows images from (OriginGoes rows to map origins targets) a (b && r)
-      origin_on map origins targets {b} {r} e goes =
-          record {
-            is = λ σ g k.
-                let (h, m) = on_sheet (image.is σ g (k a member)) in (
-                  λ q _.
-                      let (x, y) = both_true b r q in
-                      record { which = i.0; inside = h; member = sym e ∙ x; means = m; origin = goes.0 y },
-                  λ f.
-                      let w = f member in
-                      let z : w.which ≡ i.0 = term_injective rows good w.which i.0 w.inside h (w.means ∙ sym m) in
-                      let x : b ≡ true = e ∙ (ap (mem to) (sym z) ∙ w.member) in
-                      rw x (goes.1 (w.origin ∙ ap (byte targets) z)),
-                );
-          }
+  pub origin_on : (map : List ℕ) (origins targets : List (Option Numbered.Node))
+      → (r ≡ true) ↔ ((mem to i ≡ true) × Goes map (get_or origins a None) (get_or targets i None))
+      → (r ≡ true) ↔ OriginGoes rows to map origins targets σ a
+  origin_on map origins targets goes = (
+    λ q. let (m, o) = goes.0 q in record { which = i; inside = h; member = m; means = means; origin = o },
+    λ w.
+        let z : w.which ≡ i = term_injective rows good w.which i w.inside h (w.means ∙ sym means) in
+        goes.1 (ap (mem to) (sym z) ∙ w.member, rw z at w.origin),
+  )
 
 -- a member of a set is on the sheet
 module _ {rows : List Row} {t : Term} where
   pub in_on : {set : TermSet} → In rows set t → OnSheet rows t
   in_on w = record { which = w.which; inside = w.inside; means = w.means }
 
-  pub moved_on : {set : TermSet} {map origins : List ℕ} {n : ℕ} → Moved rows set map origins n t → OnSheet rows t
+  pub moved_on : {set : TermSet} {map : List ℕ} {origins : List (Option Numbered.Node)} {start : Option Numbered.Node}
+      → Moved rows set map origins start t → OnSheet rows t
   moved_on w = record { which = w.which; inside = w.inside; means = w.means }
 
 -- All atoms
@@ -101,46 +73,43 @@ module _ (rows : List Row) (images : List ℕ) (from : TermSet) (P : Subst → �
   abbrev AllKnown : Type 0
   AllKnown = (i : ℕ) → mem from i ≡ true → Known rows images i
 
-  -- the members below n have the property
-  pub record Below (n : ℕ) : Type 0 where
-    pub at : (σ : Subst) → Gives rows images σ → AllKnown → (i : ℕ) → i < n → mem from i ≡ true → P σ i
-
-  -- the answer r says whether they have
+  -- the answer r says whether the members below n have the property
   pub record All (n : ℕ) (r : Bool) : Type 0 where
     pub is : (σ : Subst) → Gives rows images σ → AllKnown → (r ≡ true) ↔ ((i : ℕ) → i < n → mem from i ≡ true → P σ i)
 
-module _ {rows : List Row} {images : List ℕ} {from : TermSet} {P : Subst → ℕ → Type 0} where
-  pub none_below : Below rows images from P 0
-  none_below = record { at = λ σ g k. below_none _ }
+-- A walk over the members of a set says whether they have the property that the test asks of each and its image
+module _ (rows : List Row) (images : List ℕ) (from : TermSet) (Answers : Number.Term → Number.Term → Bool → Type 0) (n : ℕ)
+    (P : Subst → ℕ → Type 0) (there : (σ : Subst) (a : ℕ) → P σ a → OnSheet rows (apply σ (term rows a)))
+    (tests : (σ : Subst) (a : ℕ) (i : Number.Term) (r : Bool) → mem from a ≡ true → i.0 < length rows
+    → term rows i.0 ≡ apply σ (term rows a) → Answers (record { 0 = a }) i r → (r ≡ true) ↔ P σ a) where
+  module _ (σ : Subst) (g : Gives rows images σ) (k : AllKnown rows images from P) where
+    missed : (a : ℕ) → mem from a ≡ true → (o : Option Number.Term) → Imaged rows images a o
+        → ((i : Number.Term) → o ≡ Some i → Answers (record { 0 = a }) i false) → ¬ P σ a
+    missed a m None image f p = off_sheet (image.is σ g (k a m)) (there σ a p)
+    missed a m (Some i) image f p =
+        let (h, means) = on_sheet (image.is σ g (k a m)) in
+        true≢false (sym ((tests σ a i false m h means (f i refl)).1 p))
 
-  pub more_below : {i : ℕ} {r : Bool} → Below rows images from P i → Asks rows images from P i r → r ≡ true
-      → Below rows images from P (i + 1)
-  more_below {i} so_far asks e = record { at = λ σ g k. below_more _ i (so_far.at σ g k) ((asks.is σ g k).0 e) }
+    says : (r : Bool) → Finds rows images from Answers n r → (r ≡ true) ↔ ((i : ℕ) → i < n → mem from i ≡ true → P σ i)
+    says true finds =
+        granted (λ a l m.
+        let (i, image, answer) = finds.all refl a l m in
+        let (h, means) = on_sheet (image.is σ g (k a m)) in
+        (tests σ a i true m h means answer).0 refl)
+    says false finds =
+        let w = finds.not_all refl in
+        refused (λ all. missed w.which w.member w.found w.imaged w.missed (all w.which w.below w.member))
 
-  pub all_yes : {n m : ℕ} → n ≤ m → Below rows images from P m → All rows images from P n true
-  all_yes l so_far = record { is = λ σ g k. granted (λ i h. so_far.at σ g k i (omega arith)) }
+  pub found_all : {r : Bool} → Finds rows images from Answers n r → All rows images from P n r
+  found_all {r} finds = record { is = λ σ g k. says σ g k r finds }
 
-  pub all_no : {n i : ℕ} {r : Bool} → i < n → Asks rows images from P i r → r ≡ false
-      → All rows images from P n false
-  all_no {i = i} l asks e = record { is = λ σ g k. refused (λ all. was_no (asks.is σ g k) e (all i l)) }
-
--- Where a node goes, by the numbers of the nodes
-node_goes : (map : List ℕ) (n m : Node) {x y : ℕ} → n.position < 16 → m.position < 16 → x ≡ 16 * n.strand + n.position
-    → y ≡ 16 * m.strand + m.position
-    → (16 * get_or map (x / 16) 0 + x % 16 ≡ y) ↔ (move (λ s. get_or map s 0) n ≡ m)
-node_goes map n m {x} {y} h k e d =
-    let s : x / 16 ≡ n.strand = omega arith in
-    let p : x % 16 ≡ n.position = omega arith in (
-      λ q.
-          let w : 16 * get_or map n.strand 0 + n.position ≡ y = rw (s, p) at q in
-          let u : get_or map n.strand 0 ≡ m.strand = omega arith in
-          let v : n.position ≡ m.position = omega arith in
-          λ i. record { strand = u i; position = v i },
-      λ z.
-          let u : get_or map n.strand 0 ≡ m.strand = ap (λ (o : Node). o.strand) z in
-          let v : n.position ≡ m.position = ap (λ (o : Node). o.position) z in
-          rw (s, p) (omega arith),
-    )
+-- Where a node goes, of two nodes that are known
+meet : {map : List ℕ} {start end : Option Numbered.Node} {n m : Numbered.Node} → start ≡ Some n → end ≡ Some m → Goes map start end
+    → move (λ s. get_or map s 0) (node_of n) ≡ node_of m
+meet {map} {n = n} {m = m} s e w =
+    let p : w.from ≡ n = cc in
+    let q : w.to ≡ m = cc in
+    rw (p, q) at w.moves
 
 -- What rule 3 leaves serves every atom of the source
 
@@ -191,16 +160,7 @@ module _ {rows : List Row} (good : Good rows) (few : length rows ≤ 200) {A B :
               record { which = j; inside = matched.target_on.nons j l; member = (target.at j).1 l; means = e }),
         )
 
-  -- an origin's position is below 16
-  low_source : {t : Term} {n : Node} → Origin A' t n → n.position < 16
-  unfolding Precedence.Low
-  low_source {n = n} o = let (e, at, _) = at_meant (term rows) A o.at in matched.source_on.positions n e at
-
-  low_target : {t : Term} {n : Node} → Origin (means (term rows) B) t n → n.position < 16
-  unfolding Precedence.Low
-  low_target {n = n} o = let (e, at, _) = at_meant (term rows) B o.at in matched.target_on.positions n e at
-
-  module _ {from to : TermSet} {origins targets : List ℕ} {r : Bool} where
+  module _ {from to : TermSet} {origins targets : List (Option Numbered.Node)} {r : Bool} where
     six_told : All rows images from (OriginGoes rows to map origins targets) (length rows) r → IsSetOf A.uniq from
         → IsSetOf B.uniq to
         → IsOrigins rows A origins
@@ -215,11 +175,11 @@ module _ {rows : List Row} (good : Good rows) (few : length rows ≤ 200) {A B :
               let k = (target.at w.which).0 w.member in
               let (n₀, o₀, c₀) = starts.at i l in
               let (m₀, p₀, d₀) = ends.at w.which k in
-              let z : move (λ s. get_or map s 0) n₀ ≡ m₀ =
-              (node_goes map n₀ m₀ (low_source o₀) (low_target {n = m₀} p₀) c₀ d₀).0 w.origin in (
+              let z = meet c₀ d₀ w.origin in (
                 rw (← e, ← w.means) (Memᴰ.map (term rows) k),
                 λ n o.
-                    let y : n ≡ n₀ = matched.source.one_origin (term rows i) (Memᴰ.map (term rows) l) n n₀ (rw (← e) at o) o₀ in
+                    let y : n ≡ node_of n₀ =
+                    matched.source.one_origin (term rows i) (Memᴰ.map (term rows) l) n (node_of n₀) (rw (← e) at o) o₀ in
                     rw (← e, ← w.means, y, z) p₀,
               ),
           λ six. test.1 (λ i h m.
@@ -228,31 +188,25 @@ module _ {rows : List Row} (good : Good rows) (few : length rows ≤ 200) {A B :
               let (j, k, e) = Memᴰ.of_map (term rows) B.uniq x in
               let (n₀, o₀, c₀) = starts.at i l in
               let (m₀, p₀, d₀) = ends.at j k in
-              let z : move (λ s. get_or map s 0) n₀ ≡ m₀ =
-              matched.target.one_origin (term rows j) (Memᴰ.map (term rows) k) _ m₀ (rw (← e) at (f n₀ o₀)) p₀ in
+              let z : move (λ s. get_or map s 0) (node_of n₀) ≡ node_of m₀ =
+              matched.target.one_origin (term rows j) (Memᴰ.map (term rows) k) _ (node_of m₀) (rw (← e) at (f (node_of n₀) o₀)) p₀ in
               record {
                 which = j;
                 inside = matched.target_on.uniqs j k;
                 member = (target.at j).1 k;
                 means = e;
-                origin = (node_goes map n₀ m₀ (low_source o₀) (low_target p₀) c₀ d₀).1 z;
+                origin = record { from = n₀; to = m₀; starts = c₀; ends = d₀; moves = z };
               }),
         )
 
-pub judged_five : {t images : List ℕ} {from to : TermSet} {r : Bool} → Ready t images
-    → All (rows_in t) images from (GoesIn (rows_in t) to) (byte t term_count) r
-    → Judges5 (rows_in t) images from to r
-judged_five {t} ready all =
-    record {
-      tells = λ A B map matched. five_told ready.good (omega (arith, count_is t, ready.filled.terms)) matched
-          (rw (count_is t) all);
-    }
+module _ {t images : List ℕ} (filled : Filled t) (good : Good (rows_in t)) where
+  pub judged_five : {from to : TermSet} {r : Bool} → All (rows_in t) images from (GoesIn (rows_in t) to) (byte t term_count) r
+      → Judges5 (rows_in t) images from to r
+  judged_five all =
+      record { tells = λ A B map matched. five_told good (omega (arith, count_is t, filled.terms)) matched (rw (count_is t) all) }
 
-pub judged_six : {t images map : List ℕ} {from to : TermSet} {origins targets : List ℕ} {r : Bool} → Ready t images
-    → All (rows_in t) images from (OriginGoes (rows_in t) to map origins targets) (byte t term_count) r
-    → Judges6 (rows_in t) images map from to origins targets r
-judged_six {t} ready all =
-    record {
-      tells = λ A B matched. six_told ready.good (omega (arith, count_is t, ready.filled.terms)) matched
-          (rw (count_is t) all);
-    }
+  pub judged_six : {map : List ℕ} {from to : TermSet} {origins targets : List (Option Numbered.Node)} {r : Bool}
+      → All (rows_in t) images from (OriginGoes (rows_in t) to map origins targets) (byte t term_count) r
+      → Judges6 (rows_in t) images map from to origins targets r
+  judged_six all =
+      record { tells = λ A B matched. six_told good (omega (arith, count_is t, filled.terms)) matched (rw (count_is t) all) }

@@ -1,13 +1,14 @@
 -- The map rules for two skeletons of a table and the bytes of a strand map.
-use Rattle.std.specs.Prelude.{◌≡◌, Bool, true, ◌↔◌, ℕ, ◌+◌, ◌*◌, get_or}
+use Rattle.std.specs.Prelude.{◌≡◌, Bool, true, ◌↔◌, ℕ, Option, Some, None, get_or}
 use mathlib.Core.List.{List, Memᴰ}
+use Rattle.terms.specs.declared.Node as Numbered
 use Rattle.model.specs.Term.{Term}
 use Rattle.model.specs.Subst.{Subst}
 use Rattle.model.specs.Table.{Row, term}
-use Rattle.model.specs.Skeleton.{Node, Skeleton, means}
+use Rattle.model.specs.Skeleton.{Skeleton, means}
 use Rattle.model.specs.Events.{Origin}
+use Rattle.model.specs.Says.{node_of}
 use Rattle.model.specs.Maps.{OneByteEach, Rule2, Rule3, Rule4, Rule5, Rule6}
-use Rattle.tables.specs.Tables.{byte}
 
 module _ (rows : List Row) (A B : Skeleton ℕ) (map : List ℕ) where
   -- the drawings that the numbers mean
@@ -46,7 +47,7 @@ module _ (rows : List Row) (A B : Skeleton ℕ) (map : List ℕ) where
   abbrev pub Tells6 : Bool → Type 0
   Tells6 r = (σ : Subst) → Rule3 source target to σ → (r ≡ true) ↔ Rule6 source target to σ
 
--- a byte for each term: 16 * strand + position of the origin of a unique atom
-pub record IsOrigins (rows : List Row) (K : Skeleton ℕ) (origins : List ℕ) : Type 0 where
+-- a node for each term, if it has one: the origin of a unique atom
+pub record IsOrigins (rows : List Row) (K : Skeleton ℕ) (origins : List (Option Numbered.Node)) : Type 0 where
   pub at : (i : ℕ) → Memᴰ i K.uniq
-      → (n : Node) × (Origin (means (term rows) K) (term rows i) n) × (byte origins i ≡ 16 * n.strand + n.position)
+      → (n : Numbered.Node) × (Origin (means (term rows) K) (term rows i) (node_of n)) × (get_or origins i None ≡ Some n)

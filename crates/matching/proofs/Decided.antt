@@ -6,7 +6,8 @@ use mathlib.Core.Option.{Option, none, some}
 use Prim.Native.Nat.{ℕ, ◌≤◌, ◌<◌}
 use native.Mathlib.Omega.{arith}
 use lib.Dec.{T, eqb}
-use lib.ListN.{length}
+use lib.ListN.{length, replicate}
+use Rattle.std.proofs.lemmas.List.{length-replicate, get_or-replicate}
 use borrow.Author.Tests.{eqb-false, ne_eqb}
 use Rattle.model.specs.Subst.{Subst, apply}
 use Rattle.model.specs.Table.{Row, row, term}
@@ -17,7 +18,7 @@ use Rattle.theory.specs.Coherent.{Coherent, reading, images_read}
 use Rattle.theory.specs.Matching.{Wish, images, Granted, Matched, matched_iff}
 use Rattle.theory.specs.Matching as theory
 use Rattle.tables.specs.Tables.{byte}
-use Rattle.matching.specs.Pass.{and_then, demands, heads_fit, part_wishes, pass, Blank}
+use Rattle.matching.specs.Pass.{and_then, demands, heads_fit, part_wishes, pass}
 use Rattle.matching.proofs.Demanded.{between, onward, Sound, Steps, steps, Every, every_demands, all_met}
 use Rattle.matching.proofs.Shapes.{fits_here, parts_inside, heads_there, parts_there}
 use Rattle.matching.proofs.Passing.{State, pass_state, Held, pass_held, can_pass}
@@ -38,6 +39,15 @@ is_shown u v = go (eqb u 255) refl
 
 pub shows : (l : List ℕ) (p : ℕ) {u : ℕ} → byte l p ≡ u → u < 200 → img l p ≡ some u
 shows l p {u} e h = let z : eqb u 255 ≡ false = ne_eqb u 255 (λ q. omega arith) in rw (e, z)
+
+-- no term has an image yet
+pub record Blank (l : List ℕ) : Type 0 where
+  pub long : length l ≡ 200
+  pub blank : (i : ℕ) → i < 200 → byte l i ≡ 255
+
+pub all_blank : {l : List ℕ} (n : ℕ) → l ≡ replicate n 255 → n ≡ 200 → Blank l
+all_blank n e h =
+    record { long = rw (e, h) (length-replicate {A = ℕ} 200 255); blank = λ i k. rw (e, h) (get_or-replicate 200 i 255 0 k) }
 
 -- a good table, wishes between its terms, and no images yet
 pub record Posed (rows : List Row) (asked : List Wish) (l : List ℕ) : Type 0 where

@@ -1,5 +1,6 @@
 -- Laws that the proofs of `matching` use.
 -- From the table's bytes to rows, wishes and outcomes.
+pub mod Codes
 pub mod Rows
 pub mod Outcomes
 pub mod Sending

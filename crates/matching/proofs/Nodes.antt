@@ -1,24 +1,26 @@
 -- The events of a skeleton's block, and the wishes of a strand map.
 use mathlib.Core.Path.{◌≡◌, refl}
+use mathlib.Core.Bool.{Bool}
 use mathlib.Core.List.Memᴰ
 use mathlib.Core.List.{List, ◌++◌, Memᴰ}
 use Prim.Native.Nat.{ℕ, zero, suc, ◌+◌, ◌*◌, ◌≤◌, ◌<◌}
 use native.Mathlib.Omega.{arith}
 use native.Mathlib.Decide.{ℕ_discrete}
+use lib.Dec.{eqb}
 use lib.ListN.{length, get_or}
+use Rattle.terms.specs.declared.Strand.{Strand}
 use Rattle.model.specs.Skeleton.{Event, Node, message, At}
+use Rattle.model.specs.Says.{node_of}
 use Rattle.model.specs.Reading.{event}
-use Rattle.tables.proofs.Look.{count_is}
 use Rattle.theory.specs.Each.{Each, each_nil, each_cons, each_append}
 use Rattle.theory.specs.OnTable.{OnTable}
 use Rattle.theory.specs.Matching.{Wish}
-use Rattle.tables.specs.Layout.{strand_count, heights, messages}
-use Rattle.tables.specs.Tables.{byte, rows_in, skeleton_at, Filled}
-use Rattle.tables.specs.Nodes.{direction_at, message_at}
+use Rattle.tables.specs.Layout.{strand_count, heights, directions, messages}
+use Rattle.tables.specs.Tables.{byte, rows_in, skeleton_at}
+use Rattle.tables.specs.Nodes.{direction_at, message_at, There}
 use Rattle.tables.specs.Drawn.{Drawn}
 use Rattle.tables.proofs.Nodes.{stands_at, said_at}
 use Rattle.matching.specs.Matches.{Laid}
-use Rattle.matching.specs.Ready.{Messages}
 use Rattle.matching.specs.Pass.{gather, one_wish, strand_wishes, wishes}
 
 -- The members of lists, from f i on
@@ -59,9 +61,26 @@ module _ (t : List ℕ) (b : ℕ) where
       → said s p < length (rows_in t)
   said_low ok s p h k = let (e, a, q) = event_at s p h k in rw q at (ok.messages (record { strand = s; position = p }) e a)
 
+-- A node of the block at b of the table t, by a drawing of that block
+module _ {t t' : List ℕ} {b b' : ℕ} (e : t' ≡ t) (f : b' ≡ b) (s : Strand) (p : ℕ) where
+  abbrev node : Node
+  node = node_of (record { strand = s; position = p })
+
+  pub there : s.0 < byte t (b + strand_count) → p < byte t (b + heights + s.0) → There t' b' node
+  unfolding node_of
+  there h k = rw (e, f) (record { strand = h; position = k })
+
+  pub says : {m : ℕ} → m ≡ message_at t' b' node → m ≡ said t b s.0 p
+  unfolding node_of
+  says q = rw (e, f) at q
+
+  pub sends : {r : Bool} → r ≡ eqb (direction_at t' b' node) 0 → r ≡ eqb (byte t (b + directions + 16 * s.0 + p)) 0
+  unfolding node_of
+  sends q = rw (e, f) at q
+
 -- The wishes
 
-module _ {t : List ℕ} (filled : Filled t) {a b : ℕ} (A : Drawn t a) (B : Drawn t b) {map : List ℕ} (laid : Laid t a b map) where
+module _ {t : List ℕ} {a b : ℕ} (A : Drawn t a) (B : Drawn t b) {map : List ℕ} (laid : Laid t a b map) where
   -- the target strand
   abbrev to : ℕ → ℕ
   to s = get_or map s 0
@@ -69,18 +88,6 @@ module _ {t : List ℕ} (filled : Filled t) {a b : ℕ} (A : Drawn t a) (B : Dra
   module _ (s : ℕ) (h : s < length map) where
     source_strand : s < byte t (a + strand_count)
     source_strand = rw (← laid.full) h
-
-    pub strand_messages : Messages t (a + messages + 16 * s) (b + messages + 16 * to s) (byte t (a + heights + s))
-    strand_messages =
-        let l = source_strand in
-        let k = laid.inside s h in
-        let c = A.block.low s l in
-        record {
-          long = filled.long;
-          sources = omega (arith, A.block.strands, A.inside);
-          targets = omega (arith, B.block.strands, B.inside);
-          terms = λ i m. omega (arith, said_low t a A.on_table s i l m, count_is t, filled.terms);
-        }
 
     module _ (p : ℕ) (k : p < byte t (a + heights + s)) where
       pub source_low : said t a s p < length (rows_in t)
@@ -92,7 +99,7 @@ module _ {t : List ℕ} (filled : Filled t) {a b : ℕ} (A : Drawn t a) (B : Dra
       pub in_wishes : Memᴰ (said t a s p, said t b (to s) p) (wishes t a b map)
       unfolding wishes
       in_wishes =
-          in_gather (strand_wishes t a b map) 0 (length map) s (omega arith) (omega arith)
+          in_gather (λ s. strand_wishes t a b s (to s)) 0 (length map) s (omega arith) (omega arith)
           (in_gather (one_wish t (a + messages + 16 * s) (b + messages + 16 * to s)) 0 (byte t (a + heights + s)) p (omega arith)
           (omega arith) (Memᴰ.head refl))
 
@@ -101,6 +108,6 @@ module _ {t : List ℕ} (filled : Filled t) {a b : ℕ} (A : Drawn t a) (B : Dra
       → Each P (wishes t a b map)
   unfolding wishes
   each_wish P f =
-      each_gather (strand_wishes t a b map) P 0 (length map) λ s _ h.
+      each_gather (λ s. strand_wishes t a b s (to s)) P 0 (length map) λ s _ h.
       each_gather (one_wish t (a + messages + 16 * s) (b + messages + 16 * to s)) P 0 (byte t (a + heights + s)) λ p _ k.
       each_cons P (f s p (omega arith) (omega arith)) (each_nil P)

@@ -8,8 +8,6 @@ use native.Mathlib.Omega.{arith}
 use native.Mathlib.Numerals.{add-one}
 use lib.Dec.{eqb}
 use lib.ListN.{length, set, length-set}
-use lib.Seq.{get_or-set_same, get_or-set_other}
-use borrow.Author.Count.{below_more}
 use borrow.Author.Tests.{eq-eqb, ne_eqb, lt-ltb, le-ltb}
 use Rattle.model.specs.Table.{Row}
 use Rattle.theory.specs.Matching.{Wish}
@@ -151,10 +149,3 @@ module _ (rows : List Row) (p : ℕ) (l : List ℕ) (long : length l ≡ 200) wh
       → Ends (visit rows p l) m r
   unfolding visit sent
   visit_sent h e step = record { gives = rw (lt-ltb (byte l p) (length rows) h, e) step.gives; long = step.long }
-
--- A byte stored after those below i
-pub cleared_more : (l : List ℕ) (i : ℕ) → i < length l → ((j : ℕ) → j < i → byte l j ≡ 255) → (j : ℕ) → j < i + 1
-    → byte (set l i 255) j ≡ 255
-cleared_more l i h f =
-    below_more (λ j. byte (set l i 255) j ≡ 255) i (λ j k. get_or-set_other l i j 255 0 (λ e. omega arith) ∙ f j k)
-    (get_or-set_same l i 255 0 h)

@@ -1,13 +1,16 @@
 -- The bytes of the table that a row of it stands for, and the arguments that a row has.
 use mathlib.Core.Path.{◌≡◌, refl}
-use mathlib.Core.Bool.{true, cond, ◌&&◌}
+use mathlib.Core.Bool.{true, false, true≢false, cond, ◌&&◌}
 use mathlib.Core.List.{List, [], ◌∷◌}
 use Prim.Native.Nat.{ℕ, ◌+◌, ◌<◌}
+use native.Mathlib.Omega.{arith}
+use Rattle.std.proofs.lemmas.Bool.Decides.{nat_tests}
 use lib.Dec.{T, eqb, leb, le→leb}
 use Rattle.model.specs.Table.{Row, Tag, Mesg, Text, Datum, Name, Skey, Akey, Pubk, Inv, Ltk, Pair, Enc, Hash}
 use Rattle.model.specs.Table.{row, kind, first, second}
-use Rattle.tables.proofs.Look.{count_is, kind_is, first_is, second_is}
-use Rattle.theory.specs.GoodTable.{Good, Earlier}
+use Rattle.tables.proofs.Look.{count_is}
+use Rattle.theory.specs.GoodTable.{Good}
+use Rattle.keys.proofs.Rows.{EarlierBytes, earlier_bytes}
 use Rattle.theory.specs.Reach.{inverse_at}
 use Rattle.theory.specs.Matching.{Wish, parts}
 use Rattle.tables.specs.Layout.{firsts, seconds, term_count}
@@ -16,36 +19,15 @@ use Rattle.matching.specs.Pass.{first_to, second_wishes}
 
 -- Arguments are earlier terms
 
-first_earlier : (i : ℕ) (r : Row) → T (leb 7 (kind r)) → Earlier i r → first r < i
-unfolding kind first Earlier
-first_earlier i (Pubk a) h b = b
-first_earlier i (Inv a) h b = b
-first_earlier i (Ltk a c) h b = b.0
-first_earlier i (Pair a c) h b = b.0
-first_earlier i (Enc a c) h b = b.0
-first_earlier i (Hash a) h b = b
-first_earlier i _ h b = elim h [ ]
-
-second_earlier : (i : ℕ) (r : Row) → T (leb 9 (kind r) && leb (kind r) 11) → Earlier i r → second r < i
-unfolding kind second Earlier
-second_earlier i (Ltk a c) h b = b.1
-second_earlier i (Pair a c) h b = b.1
-second_earlier i (Enc a c) h b = b.1
-second_earlier i _ h b = elim h [ ]
-
 module _ {t : List ℕ} (filled : Filled t) (good : Good (rows_in t)) (i : ℕ) (h : i < byte t term_count) where
-  abbrev there : Earlier i (row (rows_in t) i)
-  there = good.earlier i (rw (count_is t) h)
+  args_low : T (leb 7 (byte t i)) → EarlierBytes t i
+  args_low = earlier_bytes t i filled h (good.earlier i (rw (count_is t) h))
 
-  pub first_low : 6 < byte t i → byte t (firsts + i) < i
-  first_low e =
-      let q : T (leb 7 (kind (row (rows_in t) i))) = rw (kind_is t i filled h) (le→leb 7 (byte t i) e) in
-      rw (first_is t i filled h) at (first_earlier i (row (rows_in t) i) q there)
+  pub first_low : leb 7 (byte t i) ≡ true → byte t (firsts + i) < i
+  first_low e = (args_low (rw e tt)).first
 
   pub second_low : (leb 9 (byte t i) && leb (byte t i) 11) ≡ true → byte t (seconds + i) < i
-  second_low e =
-      let q : T (leb 9 (kind (row (rows_in t) i)) && leb (kind (row (rows_in t) i)) 11) = rw (kind_is t i filled h, e) tt in
-      rw (second_is t i filled h) at (second_earlier i (row (rows_in t) i) q there)
+  second_low e = (args_low (le→leb 7 (byte t i) (grind (arith, nat_tests)))).second
 
 module _ (rows : List Row) (t : ℕ) where
   -- what the first argument of a row goes to, and the wish for its second one
@@ -55,7 +37,7 @@ module _ (rows : List Row) (t : ℕ) where
   abbrev second_goes : Row → List Wish
   second_goes r = cond (leb 9 (kind r) && leb (kind r) 11) ((second r, second (row rows t)) ∷ []) []
 
-  leaf_parts : (r : Row) → T (leb (kind r) 6) → parts rows r t ≡ []
+  leaf_parts : (r : Row) → leb 7 (kind r) ≡ false → parts rows r t ≡ []
   unfolding kind parts
   leaf_parts (Tag a) h = refl
   leaf_parts (Mesg a) h = refl
@@ -64,7 +46,7 @@ module _ (rows : List Row) (t : ℕ) where
   leaf_parts (Name a) h = refl
   leaf_parts (Skey a) h = refl
   leaf_parts (Akey a) h = refl
-  leaf_parts _ h = elim h [ ]
+  leaf_parts _ h = absurd (true≢false h)
 
   more_parts : (r : Row) → T (leb 7 (kind r)) → parts rows r t ≡ (first r, first_goes r) ∷ second_goes r
   unfolding kind parts first second
@@ -76,8 +58,8 @@ module _ (rows : List Row) (t : ℕ) where
   more_parts (Hash a) h = refl
   more_parts _ h = elim h [ ]
 
-  pub parts_none : (p : ℕ) → leb (kind (row rows p)) 6 ≡ true → parts rows (row rows p) t ≡ []
-  parts_none p e = leaf_parts (row rows p) (rw e tt)
+  pub parts_none : (p : ℕ) → leb 7 (kind (row rows p)) ≡ false → parts rows (row rows p) t ≡ []
+  parts_none p e = leaf_parts (row rows p) e
 
   pub parts_some : (p : ℕ) → leb 7 (kind (row rows p)) ≡ true
       → parts rows (row rows p) t ≡ (first (row rows p), first_to rows p t) ∷ second_wishes rows p t

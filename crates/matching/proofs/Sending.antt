@@ -2,10 +2,10 @@
 use mathlib.Core.Path.{◌≡◌, sym as back}
 use mathlib.Core.Bool.{Bool, true, false, ◌&&◌}
 use mathlib.Core.List.{List}
-use Prim.Native.Nat.{ℕ, ◌+◌, ◌<◌, ◌≤◌}
+use Prim.Native.Nat.{ℕ, ◌+◌, ◌<◌}
 use lib.Dec.{eqb, leb}
 use lib.ListN.{length}
-use borrow.Author.Tests.{ne_eqb, le-leb}
+use borrow.Author.Tests.{ne_eqb}
 use Rattle.tables.proofs.Look.{count_is, kind_is, first_is, second_is}
 use Rattle.tables.specs.Layout.{firsts, seconds, term_count}
 use Rattle.tables.specs.Tables.{byte, rows_in, Filled}
@@ -56,17 +56,17 @@ module _ {t : List ℕ} (filled : Filled t) {p u : ℕ} (terms : Terms t p u) wh
   unfolding second_wishes
   asks_second e l step = rw (kind_is t p filled h, e, second_is t p filled h, second_is t u filled k) (demand_alone _ l step)
 
-  pub no_parts : byte t p ≤ 6 → {l : List ℕ} → length l ≡ 200 → Ends (demands (part_wishes (rows_in t) p u) l) l true
+  pub no_parts : leb 7 (byte t p) ≡ false → {l : List ℕ} → length l ≡ 200 → Ends (demands (part_wishes (rows_in t) p u) l) l true
   unfolding demands
-  no_parts e long = at_once (rw (parts_none (rows_in t) u p (rw (kind_is t p filled h) (le-leb (byte t p) 6 e)))) long
+  no_parts e long = at_once (rw (parts_none (rows_in t) u p (rw (kind_is t p filled h) e))) long
 
-  module _ (more : 6 < byte t p) (x : ℕ) (is : x ≡ first_to (rows_in t) p u) (l : List ℕ) {m : List ℕ} {r : Bool}
+  module _ (more : leb 7 (byte t p) ≡ true) (x : ℕ) (is : x ≡ first_to (rows_in t) p u) (l : List ℕ) {m : List ℕ} {r : Bool}
       (step : Ends (demand (byte t (firsts + p), x) l) m r) where
     split : and_then (demand (byte t (firsts + p), x) l) (demands (second_wishes (rows_in t) p u))
         ≡ demands (part_wishes (rows_in t) p u) l
     unfolding demands
     split =
-        rw (parts_some (rows_in t) u p (rw (kind_is t p filled h) (le-leb 7 (byte t p) more)), first_is t p filled h, is)
+        rw (parts_some (rows_in t) u p (rw (kind_is t p filled h) more), first_is t p filled h, is)
 
     pub first_clashes : r ≡ false → Ends (demands (part_wishes (rows_in t) p u) l) m false
     first_clashes e = ends_stopped (demands (second_wishes (rows_in t) p u)) step e split

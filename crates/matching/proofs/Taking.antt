@@ -26,11 +26,10 @@ use Rattle.tables.specs.Tables.{byte, rows_in, skeleton_at}
 use Rattle.tables.proofs.Nodes.{at_stands, said_at}
 use Rattle.matching.specs.Matches.{Laid, Takes, Matches}
 use Rattle.tables.specs.Drawn.{Drawn}
-use Rattle.matching.specs.Ready.{Ready}
-use Rattle.matching.specs.Pass.{and_then, demands, pass, part_wishes, wishes, Blank, Ends}
+use Rattle.matching.specs.Pass.{and_then, demands, pass, part_wishes, wishes, Ends}
 use Rattle.matching.proofs.Nodes.{said, event_at, source_low, target_low, in_wishes, each_wish}
 use Rattle.matching.proofs.Occurrences.{part_occurs, goes_down}
-use Rattle.matching.proofs.Decided.{Posed, outcome, asked_low, args_low, only, has_outcome}
+use Rattle.matching.proofs.Decided.{Blank, Posed, outcome, asked_low, args_low, only, has_outcome}
 use Rattle.matching.proofs.Decided.{found, found_takes, found_grants}
 
 message_means : (f : ℕ → Term) (e : Event ℕ) → message (on_message f e) ≡ f (message e)
@@ -38,7 +37,7 @@ unfolding message on_message
 message_means f (send t) = refl
 message_means f (recv t) = refl
 
-module _ {t inverses : List ℕ} (ready : Ready t inverses) {a b : ℕ} (A : Drawn t a) (B : Drawn t b)
+module _ {t : List ℕ} {a b : ℕ} (A : Drawn t a) (B : Drawn t b)
     {map : List ℕ} (laid : Laid t a b map) where
   abbrev rows : List Row
   rows = rows_in t
@@ -68,36 +67,36 @@ module _ {t inverses : List ℕ} (ready : Ready t inverses) {a b : ℕ} (A : Dra
       let says = ap message (back q) ∙ (message_means (term rows) d ∙ ap (term rows) (said_at t c i)) in
       record { strand = l.strand; position = l.position; says = says }
 
-  grants_takes : (σ : Subst) → Each (Granted rows ready.good σ) asked → Takes rows (skeleton_at t a) (skeleton_at t b) map σ
+  grants_takes : (σ : Subst) → Each (Granted rows A.good σ) asked → Takes rows (skeleton_at t a) (skeleton_at t b) map σ
   unfolding Rule3
   grants_takes σ g n e d x y =
       let f = find a n e x in
       let h = find b (move to n) d y in
       let l : n.strand < length map = rw laid.full f.strand in
-      let w = g _ (in_wishes ready.filled A B laid n.strand l n.position f.position) in
+      let w = g _ (in_wishes A B laid n.strand l n.position f.position) in
       ap (apply σ) f.says ∙ (w.is ∙ back h.says)
 
-  takes_grants : (σ : Subst) → Takes rows (skeleton_at t a) (skeleton_at t b) map σ → Each (Granted rows ready.good σ) asked
+  takes_grants : (σ : Subst) → Takes rows (skeleton_at t a) (skeleton_at t b) map σ → Each (Granted rows A.good σ) asked
   unfolding Rule3
   takes_grants σ r =
-      each_wish ready.filled A B laid (Granted rows ready.good σ) λ s p h k.
+      each_wish A B laid (Granted rows A.good σ) λ s p h k.
       let (e, x, q) = event_at t a s p (rw (← laid.full) h) k in
       let (d, y, z) = event_at t b (to s) p (laid.inside s h) (omega (arith, laid.high s h)) in
       let n : Node = record { strand = s; position = p } in
       let i = r n _ _ (at_means (term rows) (skeleton_at t a) x) (at_means (term rows) (skeleton_at t b) y) in
       record {
-        from = source_low ready.filled A B laid s h p k;
-        to = target_low ready.filled A B laid s h p k;
+        from = source_low A B laid s h p k;
+        to = target_low A B laid s h p k;
         is = rw (message_means (term rows) e, message_means (term rows) d, q, z) at i;
       }
 
   inside : Each (λ w. (w.0 < length rows) × (w.1 < length rows)) asked
   inside =
-      each_wish ready.filled A B laid _ λ s p h k.
-      (source_low ready.filled A B laid s h p k, target_low ready.filled A B laid s h p k)
+      each_wish A B laid _ λ s p h k.
+      (source_low A B laid s h p k, target_low A B laid s h p k)
 
   few : length rows ≤ 200
-  few = rw (count_is t) ready.filled.terms
+  few = rw (count_is t) A.filled.terms
 
   -- A term that occurs in a source event, by a wish for what it occurs in
 
@@ -112,13 +111,13 @@ module _ {t inverses : List ℕ} (ready : Ready t inverses) {a b : ℕ} (A : Dra
       let l : g.node.strand < length map = rw laid.full f.strand in
       record {
         wish = (said t a g.node.strand g.node.position, said t b (to g.node.strand) g.node.position);
-        listed = in_wishes ready.filled A B laid g.node.strand l g.node.position f.position;
+        listed = in_wishes A B laid g.node.strand l g.node.position f.position;
         occurs = rw f.says at g.occurs;
       }
 
   sources : Each (λ w. InSomeEvent A' (term rows w.0)) asked
   sources =
-      each_wish ready.filled A B laid _ λ s p h k.
+      each_wish A B laid _ λ s p h k.
       let (e, x, q) = event_at t a s p (rw (← laid.full) h) k in
       record {
         node = record { strand = s; position = p };
@@ -130,18 +129,18 @@ module _ {t inverses : List ℕ} (ready : Ready t inverses) {a b : ℕ} (A : Dra
   in_args : (p u : ℕ) → p < length rows → InSomeEvent A' (term rows p)
       → Each (λ w. w.0 < length rows → InSomeEvent A' (term rows w.0)) (part_wishes rows p u)
   in_args p u h g w m k =
-      let o = part_occurs rows ready.good p u h w m k in
+      let o = part_occurs rows A.good p u h w m k in
       record { node = g.node; event = g.event; at = g.at; occurs = occurs_after o g.occurs }
 
   module _ {l : List ℕ} (blank : Blank l) where
     abbrev posed : Posed rows asked l
-    posed = record { good = ready.good; few = few; inside = inside; blank = blank }
+    posed = record { good = A.good; few = few; inside = inside; blank = blank }
 
     module _ {m : List ℕ} (e : outcome posed ≡ some m) where
       has_image : (i : ℕ) → i < length rows → InSomeEvent A' (term rows i) → byte m i < length rows
       has_image i h g =
           let s = source i g in
-          goes_down rows ready.good (λ p. byte m p < length rows) (byte m) (args_low posed e) i h
+          goes_down rows A.good (λ p. byte m p < length rows) (byte m) (args_low posed e) i h
           s.wish.0 (inside s.wish s.listed).0 s.occurs (asked_low posed e s.wish s.listed)
 
       same : (τ : Subst) → Takes rows (skeleton_at t a) (skeleton_at t b) map τ → (i : ℕ) → i < length rows

@@ -2,3 +2,4 @@
 pub mod Matches
 pub mod Ready
 pub mod Pass
+pub mod Props

@@ -14,6 +14,12 @@ pub record Laid (t : List ℕ) (a b : ℕ) (map : List ℕ) : Type 0 where
   pub inside : (s : ℕ) → s < length map → get_or map s 0 < byte t (b + strand_count)
   pub high : (s : ℕ) → s < length map → byte t (a + heights + s) ≤ byte t (b + heights + get_or map s 0)
 
+-- of them, the source strand s goes to the target strand u, which is at least as high
+pub record Reaches (t : List ℕ) (a b s u : ℕ) : Type 0 where
+  pub source : s < byte t (a + strand_count)
+  pub target : u < byte t (b + strand_count)
+  pub high : byte t (a + heights + s) ≤ byte t (b + heights + u)
+
 module _ (rows : List Row) (A B : Skeleton ℕ) (map : List ℕ) where
   -- the substitution keeps rule 3
   abbrev pub Takes : Subst → Type 0

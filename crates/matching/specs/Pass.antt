@@ -1,6 +1,6 @@
 -- The pass that decides map rule 3, over images as bytes: a byte for each term, 255 where it has no image yet. There is no
 -- outcome where two demands clash, or where a term cannot go to its image.
-use Rattle.std.specs.Prelude.{◌≡◌, Bool, true, cond, ◌||◌, ◌&&◌, List, [], ◌∷◌, ◌++◌, ℕ, zero, suc, ◌+◌, ◌*◌, ◌<◌, eqb, leb, ltb, length, get_or, set}
+use Rattle.std.specs.Prelude.{◌≡◌, Bool, true, cond, ◌||◌, ◌&&◌, List, [], ◌∷◌, ◌++◌, ℕ, zero, suc, ◌+◌, ◌*◌, eqb, leb, ltb, length, get_or, set}
 use Rattle.std.proofs.Math.Option.{Option, none, some}
 use Rattle.model.specs.Table.{Row, row, kind, first, second}
 use Rattle.theory.specs.Reach.{inverse_at}
@@ -72,19 +72,13 @@ module _ (t : List ℕ) where
   abbrev pub one_wish : ℕ → ℕ → ℕ → List Wish
   one_wish from to p = (byte t (from + p), byte t (to + p)) ∷ []
 
-  -- Of the blocks at a and b: the messages of the source strand s are to go to those of its target strand
-  abbrev pub strand_wishes : ℕ → ℕ → List ℕ → ℕ → List Wish
-  strand_wishes a b map s =
-      gather (one_wish (a + messages + 16 * s) (b + messages + 16 * get_or map s 0)) 0 (byte t (a + heights + s))
+  -- Of the blocks at a and b: the messages of the source strand s are to go to those of the target strand u
+  abbrev pub strand_wishes : (a b s u : ℕ) → List Wish
+  strand_wishes a b s u = gather (one_wish (a + messages + 16 * s) (b + messages + 16 * u)) 0 (byte t (a + heights + s))
 
   -- of all source strands
   unfoldable pub wishes : ℕ → ℕ → List ℕ → List Wish
-  wishes a b map = gather (strand_wishes a b map) 0 (length map)
-
--- no term has an image yet
-pub record Blank (l : List ℕ) : Type 0 where
-  pub long : length l ≡ 200
-  pub blank : (i : ℕ) → i < 200 → byte l i ≡ 255
+  wishes a b map = gather (λ s. strand_wishes a b s (get_or map s 0)) 0 (length map)
 
 -- the answer and the lent images afterwards, for an outcome; where it is no, nothing is said of the images but their length
 pub record Ends (outcome : Option (List ℕ)) (images : List ℕ) (r : Bool) : Type 0 where

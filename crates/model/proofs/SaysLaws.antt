@@ -1,99 +1,138 @@
 -- What each answer of the code says, and that no two say the same.
-use Rattle.std.specs.Prelude.{◌≡◌, refl, true, false, ℕ}
-use Rattle.std.proofs.Common.{ap, sym as back, true≢false, arith}
+use Rattle.std.specs.Prelude.{◌≡◌, refl, Bool, true, false, ℕ, ◌-◌, List, [], ◌∷◌, get_or, map, Option, None, Some, Result, Ok, Err}
+use Rattle.std.proofs.Common.{ap, sym as back, ◌∙◌, arith}
 use Rattle.terms.specs.declared.Node.{Node}
+use Rattle.model.specs.declared.Reason.{Reason}
 use Rattle.model.specs.declared.Refusal.{Refusal}
-use Rattle.model.specs.declared.SheetAnswer.{SheetAnswer}
-use Rattle.model.specs.declared.YesNo.{YesNo}
-use Rattle.model.specs.declared.ReachAnswer.{ReachAnswer}
-use Rattle.model.specs.declared.RealizedAnswer.{RealizedAnswer}
-use Rattle.model.specs.declared.MapAnswer.{MapAnswer}
-use Rattle.model.specs.declared.ListAnswer.{ListAnswer}
+use Rattle.model.specs.declared.Counts.{Counts as CodeCounts}
+use Rattle.model.specs.declared.Rule.{Rule}
 use Rattle.model.specs.Sheet as Sheet
-use Rattle.model.specs.Answers.{Answer, answered, refused, Counts, realized, open_at, is_map, breaks}
-use Rattle.model.specs.Says.{node_of, refusal_of, sheet_says, yes_no_says, reach_says, realized_says, map_says, list_says}
+use Rattle.model.specs.Answers.{Answer, answered, refused, realized, open_at, is_map, breaks}
+use Rattle.model.specs.Says.{node_of, number_of, refusal_of, rule_number, says, counts_of, openness_of, mapping_of, sheet_says, yes_no_says, reach_says, realized_says, map_says, list_says}
 
 -- the paper's numbers and values, each in its place
-pub sheet_values : (t k : ℕ) (r : Refusal) → (sheet_says (SheetAnswer.Good t k) ≡ answered (record { terms = t; skeletons = k }))
-    × (sheet_says (SheetAnswer.Refused r) ≡ refused (record { number = r.number; place = r.place; skeleton = r.skeleton }))
+pub sheet_values : (t k : ℕ) (r : Refusal)
+    → (sheet_says (Ok (record { terms = t; skeletons = k })) ≡ answered (record { terms = t; skeletons = k }))
+    × (sheet_says (Err r) ≡ refused (record { number = number_of r.reason; place = r.place; skeleton = r.skeleton }))
 unfolding sheet_says
 sheet_values t k r = (refl, refl)
 
-pub yes_no_values : (r : Refusal) → (yes_no_says YesNo.Yes ≡ answered true) × (yes_no_says YesNo.No ≡ answered false)
-    × (yes_no_says (YesNo.Refused r) ≡ refused (record { number = r.number; place = r.place; skeleton = r.skeleton }))
+pub yes_no_values : (r : Refusal) → (yes_no_says (Ok true) ≡ answered true) × (yes_no_says (Ok false) ≡ answered false)
+    × (yes_no_says (Err r) ≡ refused (record { number = number_of r.reason; place = r.place; skeleton = r.skeleton }))
 unfolding yes_no_says
 yes_no_values r = (refl, refl, refl)
 
-pub reach_values : (n : ℕ) (r : Refusal) → (reach_says (ReachAnswer.Reach n) ≡ answered n)
-    × (reach_says (ReachAnswer.Refused r) ≡ refused (record { number = r.number; place = r.place; skeleton = r.skeleton }))
+pub reach_values : (n : ℕ) (r : Refusal) → (reach_says (Ok n) ≡ answered n)
+    × (reach_says (Err r) ≡ refused (record { number = number_of r.reason; place = r.place; skeleton = r.skeleton }))
 unfolding reach_says
 reach_values n r = (refl, refl)
 
-pub realized_values : (n : Node) (r : Refusal) → (realized_says RealizedAnswer.Realized ≡ answered realized)
-    × (realized_says (RealizedAnswer.Open n) ≡ answered (open_at (record { strand = n.strand.0; position = n.position })))
-    × (realized_says (RealizedAnswer.Refused r)
-    ≡ refused (record { number = r.number; place = r.place; skeleton = r.skeleton }))
+pub realized_values : (n : Node) (r : Refusal) → (realized_says (Ok None) ≡ answered realized)
+    × (realized_says (Ok (Some n)) ≡ answered (open_at (record { strand = n.strand.0; position = n.position })))
+    × (realized_says (Err r) ≡ refused (record { number = number_of r.reason; place = r.place; skeleton = r.skeleton }))
 unfolding realized_says
 realized_values n r = (refl, refl, refl)
 
-pub map_values : (k : ℕ) (r : Refusal) → (map_says MapAnswer.Yes ≡ answered is_map)
-    × (map_says (MapAnswer.Broken k) ≡ answered (breaks k))
-    × (map_says (MapAnswer.Refused r) ≡ refused (record { number = r.number; place = r.place; skeleton = r.skeleton }))
+pub map_values : (k : Rule) (r : Refusal) → (map_says (Ok None) ≡ answered is_map)
+    × (map_says (Ok (Some k)) ≡ answered (breaks (rule_number k)))
+    × (map_says (Err r) ≡ refused (record { number = number_of r.reason; place = r.place; skeleton = r.skeleton }))
 unfolding map_says
 map_values k r = (refl, refl, refl)
 
-pub list_values : (n : ℕ) (r : Refusal) → (list_says (ListAnswer.Maps n) ≡ answered n)
-    × (list_says (ListAnswer.Refused r) ≡ refused (record { number = r.number; place = r.place; skeleton = r.skeleton }))
+pub list_values : (n : ℕ) (r : Refusal) → (list_says (Ok n) ≡ answered n)
+    × (list_says (Err r) ≡ refused (record { number = number_of r.reason; place = r.place; skeleton = r.skeleton }))
 unfolding list_says
 list_values n r = (refl, refl)
+
+-- the sixteen refusals, in order from 1
+abbrev pub reasons : List Reason
+reasons =
+    Reason.CutShort ∷ Reason.UnknownMark ∷ Reason.UnknownEdition ∷ Reason.OutOfBounds ∷ Reason.WrongTerm ∷ Reason.TermTwice
+    ∷ Reason.WrongReference ∷ Reason.BytesAfterEnd ∷ Reason.KeyWithoutInverse ∷ Reason.Cycle ∷ Reason.NonCarried
+    ∷ Reason.NoSingleOrigin ∷ Reason.HeardBeforeOrigin ∷ Reason.VariableMissing ∷ Reason.NoSuch ∷ Reason.NoRoom ∷ []
+
+pub number_values : map number_of reasons ≡ 1 ∷ 2 ∷ 3 ∷ 4 ∷ 5 ∷ 6 ∷ 7 ∷ 8 ∷ 9 ∷ 10 ∷ 11 ∷ 12 ∷ 13 ∷ 14 ∷ 15 ∷ 16 ∷ []
+number_values = refl
+
+reason_at : (r : Reason) → get_or reasons (number_of r - 1) Reason.NoRoom ≡ r
+reason_at Reason.CutShort = refl
+reason_at Reason.UnknownMark = refl
+reason_at Reason.UnknownEdition = refl
+reason_at Reason.OutOfBounds = refl
+reason_at Reason.WrongTerm = refl
+reason_at Reason.TermTwice = refl
+reason_at Reason.WrongReference = refl
+reason_at Reason.BytesAfterEnd = refl
+reason_at Reason.KeyWithoutInverse = refl
+reason_at Reason.Cycle = refl
+reason_at Reason.NonCarried = refl
+reason_at Reason.NoSingleOrigin = refl
+reason_at Reason.HeardBeforeOrigin = refl
+reason_at Reason.VariableMissing = refl
+reason_at Reason.NoSuch = refl
+reason_at Reason.NoRoom = refl
+
+-- the six rules, in order from 1
+abbrev pub rules : List Rule
+rules = Rule.Strands ∷ Rule.Events ∷ Rule.Messages ∷ Rule.Order ∷ Rule.Nons ∷ Rule.Uniqs ∷ []
+
+pub rule_values : map rule_number rules ≡ 1 ∷ 2 ∷ 3 ∷ 4 ∷ 5 ∷ 6 ∷ []
+rule_values = refl
+
+rule_at : (k : Rule) → get_or rules (rule_number k - 1) Rule.Uniqs ≡ k
+rule_at Rule.Strands = refl
+rule_at Rule.Events = refl
+rule_at Rule.Messages = refl
+rule_at Rule.Order = refl
+rule_at Rule.Nons = refl
+rule_at Rule.Uniqs = refl
+
+-- a number says one reason, and one rule
+reason_one : (r q : Reason) → number_of r ≡ number_of q → r ≡ q
+reason_one r q e = back (reason_at r) ∙ ap (λ n. get_or reasons (n - 1) Reason.NoRoom) e ∙ reason_at q
+
+rule_one : (j k : Rule) → rule_number j ≡ rule_number k → j ≡ k
+rule_one j k e = back (rule_at j) ∙ ap (λ n. get_or rules (n - 1) Rule.Uniqs) e ∙ rule_at k
 
 refusal_one : (r q : Refusal) → refusal_of r ≡ refusal_of q → r ≡ q
 unfolding refusal_of
 refusal_one r q e =
-    let n : r.number ≡ q.number = ap (λ x. x.number) e in
+    let n : r.reason ≡ q.reason = reason_one r.reason q.reason (ap (λ x. x.number) e) in
     let p : r.place ≡ q.place = ap (λ x. x.place) e in
     let k : r.skeleton ≡ q.skeleton = ap (λ x. x.skeleton) e in
-    λ i. record { number = n i; place = p i; skeleton = k i }
-
--- two refusals that say the same, given by any of the answers
-refused_one : {A B : Type 0} (made : Refusal → B) (r q : Refusal)
-    → ◌≡◌ {A = Answer A} (refused (refusal_of r)) (refused (refusal_of q))
-    → made r ≡ made q
-refused_one made r q e = let z : refusal_of r ≡ refusal_of q = cc in ap made (refusal_one r q z)
+    λ i. record { reason = n i; place = p i; skeleton = k i }
 
 -- an answer is no refusal
 apart : {A C : Type 0} {x : A} {r : Sheet.Refusal} → ◌≡◌ {A = Answer A} (answered x) (refused r) → C
 apart e = let z : ◌≡◌ {A = ℕ} 0 1 = cc in absurd (omega arith)
 
-pub sheet_says_one : (a b : SheetAnswer) → sheet_says a ≡ sheet_says b → a ≡ b
+-- where no two values say the same, no two answers do
+says_one : {A B : Type 0} (value : A → B) → ((x y : A) → value x ≡ value y → x ≡ y) → (a b : Result A Refusal)
+    → says value a ≡ says value b
+    → a ≡ b
+says_one value one (Ok x) (Ok y) e = let z : value x ≡ value y = cc in ap Ok (one x y z)
+says_one value one (Ok x) (Err q) e = apart e
+says_one value one (Err r) (Ok y) e = apart (back e)
+says_one value one (Err r) (Err q) e = let z : refusal_of r ≡ refusal_of q = cc in ap Err (refusal_one r q z)
+
+counts_one : (c d : CodeCounts) → counts_of c ≡ counts_of d → c ≡ d
+unfolding counts_of
+counts_one c d e =
+    let t : c.terms ≡ d.terms = ap (λ x. x.terms) e in
+    let k : c.skeletons ≡ d.skeletons = ap (λ x. x.skeletons) e in
+    λ i. record { terms = t i; skeletons = k i }
+
+pub sheet_says_one : (a b : Result CodeCounts Refusal) → sheet_says a ≡ sheet_says b → a ≡ b
 unfolding sheet_says
-sheet_says_one (SheetAnswer.Good t k) (SheetAnswer.Good u l) e =
-    let z : ◌≡◌ {A = Counts} (record { terms = t; skeletons = k }) (record { terms = u; skeletons = l }) = cc in
-    let x : t ≡ u = ap (λ c. c.terms) z in
-    let y : k ≡ l = ap (λ c. c.skeletons) z in
-    λ i. SheetAnswer.Good (x i) (y i)
-sheet_says_one (SheetAnswer.Good t k) (SheetAnswer.Refused q) e = apart e
-sheet_says_one (SheetAnswer.Refused r) (SheetAnswer.Good u l) e = apart (back e)
-sheet_says_one (SheetAnswer.Refused r) (SheetAnswer.Refused q) e = refused_one SheetAnswer.Refused r q e
+sheet_says_one = says_one counts_of counts_one
 
-pub yes_no_says_one : (a b : YesNo) → yes_no_says a ≡ yes_no_says b → a ≡ b
+pub yes_no_says_one : (a b : Result Bool Refusal) → yes_no_says a ≡ yes_no_says b → a ≡ b
 unfolding yes_no_says
-yes_no_says_one YesNo.Yes YesNo.Yes e = refl
-yes_no_says_one YesNo.Yes YesNo.No e = let z : true ≡ false = cc in absurd (true≢false z)
-yes_no_says_one YesNo.Yes (YesNo.Refused q) e = apart e
-yes_no_says_one YesNo.No YesNo.Yes e = let z : false ≡ true = cc in absurd (true≢false (back z))
-yes_no_says_one YesNo.No YesNo.No e = refl
-yes_no_says_one YesNo.No (YesNo.Refused q) e = apart e
-yes_no_says_one (YesNo.Refused r) YesNo.Yes e = apart (back e)
-yes_no_says_one (YesNo.Refused r) YesNo.No e = apart (back e)
-yes_no_says_one (YesNo.Refused r) (YesNo.Refused q) e = refused_one YesNo.Refused r q e
+yes_no_says_one = says_one (λ b. b) (λ b c e. e)
 
-pub reach_says_one : (a b : ReachAnswer) → reach_says a ≡ reach_says b → a ≡ b
+pub reach_says_one : (a b : Result ℕ Refusal) → reach_says a ≡ reach_says b → a ≡ b
 unfolding reach_says
-reach_says_one (ReachAnswer.Reach m) (ReachAnswer.Reach n) e = let z : m ≡ n = cc in ap ReachAnswer.Reach z
-reach_says_one (ReachAnswer.Reach m) (ReachAnswer.Refused q) e = apart e
-reach_says_one (ReachAnswer.Refused r) (ReachAnswer.Reach n) e = apart (back e)
-reach_says_one (ReachAnswer.Refused r) (ReachAnswer.Refused q) e = refused_one ReachAnswer.Refused r q e
+reach_says_one = says_one (λ n. n) (λ m n e. e)
 
 node_one : (m n : Node) → node_of m ≡ node_of n → m ≡ n
 unfolding node_of
@@ -102,35 +141,28 @@ node_one m n e =
     let p : m.position ≡ n.position = ap (λ x. x.position) e in
     λ i. record { strand = record { 0 = s i }; position = p i }
 
-pub realized_says_one : (a b : RealizedAnswer) → realized_says a ≡ realized_says b → a ≡ b
+openness_one : (m n : Option Node) → openness_of m ≡ openness_of n → m ≡ n
+unfolding openness_of
+openness_one None None e = refl
+openness_one None (Some n) e = let z : ◌≡◌ {A = ℕ} 0 1 = cc in absurd (omega arith)
+openness_one (Some m) None e = let z : ◌≡◌ {A = ℕ} 0 1 = cc in absurd (omega arith)
+openness_one (Some m) (Some n) e = let z : node_of m ≡ node_of n = cc in ap Some (node_one m n z)
+
+pub realized_says_one : (a b : Result (Option Node) Refusal) → realized_says a ≡ realized_says b → a ≡ b
 unfolding realized_says
-realized_says_one RealizedAnswer.Realized RealizedAnswer.Realized e = refl
-realized_says_one RealizedAnswer.Realized (RealizedAnswer.Open n) e = let z : ◌≡◌ {A = ℕ} 0 1 = cc in absurd (omega arith)
-realized_says_one RealizedAnswer.Realized (RealizedAnswer.Refused q) e = apart e
-realized_says_one (RealizedAnswer.Open m) RealizedAnswer.Realized e = let z : ◌≡◌ {A = ℕ} 0 1 = cc in absurd (omega arith)
-realized_says_one (RealizedAnswer.Open m) (RealizedAnswer.Open n) e =
-    let z : node_of m ≡ node_of n = cc in
-    ap RealizedAnswer.Open (node_one m n z)
-realized_says_one (RealizedAnswer.Open m) (RealizedAnswer.Refused q) e = apart e
-realized_says_one (RealizedAnswer.Refused r) RealizedAnswer.Realized e = apart (back e)
-realized_says_one (RealizedAnswer.Refused r) (RealizedAnswer.Open n) e = apart (back e)
-realized_says_one (RealizedAnswer.Refused r) (RealizedAnswer.Refused q) e = refused_one RealizedAnswer.Refused r q e
+realized_says_one = says_one openness_of openness_one
 
-pub map_says_one : (a b : MapAnswer) → map_says a ≡ map_says b → a ≡ b
+mapping_one : (j k : Option Rule) → mapping_of j ≡ mapping_of k → j ≡ k
+unfolding mapping_of
+mapping_one None None e = refl
+mapping_one None (Some k) e = let z : ◌≡◌ {A = ℕ} 0 1 = cc in absurd (omega arith)
+mapping_one (Some j) None e = let z : ◌≡◌ {A = ℕ} 0 1 = cc in absurd (omega arith)
+mapping_one (Some j) (Some k) e = let z : rule_number j ≡ rule_number k = cc in ap Some (rule_one j k z)
+
+pub map_says_one : (a b : Result (Option Rule) Refusal) → map_says a ≡ map_says b → a ≡ b
 unfolding map_says
-map_says_one MapAnswer.Yes MapAnswer.Yes e = refl
-map_says_one MapAnswer.Yes (MapAnswer.Broken k) e = let z : ◌≡◌ {A = ℕ} 0 1 = cc in absurd (omega arith)
-map_says_one MapAnswer.Yes (MapAnswer.Refused q) e = apart e
-map_says_one (MapAnswer.Broken j) MapAnswer.Yes e = let z : ◌≡◌ {A = ℕ} 0 1 = cc in absurd (omega arith)
-map_says_one (MapAnswer.Broken j) (MapAnswer.Broken k) e = let z : j ≡ k = cc in ap MapAnswer.Broken z
-map_says_one (MapAnswer.Broken j) (MapAnswer.Refused q) e = apart e
-map_says_one (MapAnswer.Refused r) MapAnswer.Yes e = apart (back e)
-map_says_one (MapAnswer.Refused r) (MapAnswer.Broken k) e = apart (back e)
-map_says_one (MapAnswer.Refused r) (MapAnswer.Refused q) e = refused_one MapAnswer.Refused r q e
+map_says_one = says_one mapping_of mapping_one
 
-pub list_says_one : (a b : ListAnswer) → list_says a ≡ list_says b → a ≡ b
+pub list_says_one : (a b : Result ℕ Refusal) → list_says a ≡ list_says b → a ≡ b
 unfolding list_says
-list_says_one (ListAnswer.Maps m) (ListAnswer.Maps n) e = let z : m ≡ n = cc in ap ListAnswer.Maps z
-list_says_one (ListAnswer.Maps m) (ListAnswer.Refused q) e = apart e
-list_says_one (ListAnswer.Refused r) (ListAnswer.Maps n) e = apart (back e)
-list_says_one (ListAnswer.Refused r) (ListAnswer.Refused q) e = refused_one ListAnswer.Refused r q e
+list_says_one = says_one (λ n. n) (λ m n e. e)

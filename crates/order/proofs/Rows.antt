@@ -1,18 +1,21 @@
 -- What is on in a matrix after a store, and in rows of words that are 0. Assumes nothing.
-use mathlib.Core.Path.{◌≡◌, ◌∙◌}
+use mathlib.Core.Path.{◌≡◌, refl, sym}
 use mathlib.Core.Bool.{true, false, ◌||◌, or-true, or-false}
 use mathlib.Core.List.{List}
 use mathlib.Core.Logic.{◌≢◌}
-use Prim.Native.Nat.{ℕ, zero, suc, ◌+◌, ◌*◌, ◌/◌, ◌%◌, ◌^◌, ◌<◌, ◌-◌}
+use Prim.Native.Nat.{ℕ, zero, suc, ◌+◌, ◌*◌, ◌/◌, ◌%◌, ◌<◌, ◌-◌}
 use native.Mathlib.Nat.{add-zero}
 use native.Mathlib.Omega.{arith}
 use native.Mathlib.Decide.{ℕ_discrete}
-use lib.ListN.{length, get_or, set}
+use lib.ListN.{length, get_or, replicate}
+use Rattle.std.proofs.lemmas.List.{get_or-replicate}
 use lib.Seq.{get_or-set_same, get_or-set_other, lt-length-set}
 use lib.Bits.{bit_or}
+use borrow.Author.Tests.{eq-eqb, ne_eqb}
+use Rattle.terms.specs.Set.{member, Added}
+use Rattle.terms.proofs.Bits.{bit_none, bit-or}
 use Rattle.order.specs.Precedence.{on}
-use Rattle.order.specs.Matrix.{with_pair, with_row, Empty, EmptyFrom}
-use Rattle.order.proofs.Bits.{bit_none, bit-or, bit_one, bit_one_other}
+use Rattle.order.specs.Matrix.{with_row, Empty, EmptyFrom}
 
 -- a word that is 0 has nothing
 word_none : (m : List ℕ) (a b : ℕ) → get_or m (2 * a + b / 64) 0 ≡ 0 → on m a b ≡ false
@@ -28,20 +31,8 @@ row_none m a low high = record { off = λ b hb. word_none m a b (go (b / 64) (om
     go (suc (suc h)) l = absurd (omega arith)
 
 -- all words are 0
-pub rows_none : (m : List ℕ) → ((i : ℕ) → i < 192 → get_or m i 0 ≡ 0) → EmptyFrom 0 m
-rows_none m none =
-    record { row = λ a l ha. record { off = λ b hb. word_none m a b (none (2 * a + b / 64) (omega arith)) } }
-
--- and word by word
-pub words_more : (m : List ℕ) (i : ℕ) → i < length m → ((j : ℕ) → j < i → get_or m j 0 ≡ 0)
-    → (j : ℕ)
-    → j < i + 1
-    → get_or (set m i 0) j 0 ≡ 0
-words_more m i h none j l =
-    elim (ℕ_discrete j i) [
-      | yes e ↦ rw e (get_or-set_same m i 0 0 h)
-      | no ne ↦ get_or-set_other m i j 0 0 ne ∙ none j (omega arith)
-    ]
+pub rows_none : EmptyFrom 0 (replicate 192 0)
+rows_none = record { row = λ a l ha. record { off = λ b hb. word_none (replicate 192 0) a b (get_or-replicate 192 (2 * a + b / 64) 0 0 (omega arith)) } }
 
 -- row by row from the last one down
 pub from_more : (m : List ℕ) (n : ℕ) → EmptyFrom n m → Empty m (n - 1) → EmptyFrom (n - 1) m
@@ -76,20 +67,21 @@ module _ (m : List ℕ) (long : length m ≡ 192) where
   unfolding on
   on_row a k b ha hb = rw (row_word a k (b / 64) ha (omega arith), bit-or)
 
-  pair_word : (a b : ℕ) → a < 96 → b < 96
-      → get_or (with_pair m a b) (2 * a + b / 64) 0 ≡ bit_or (get_or m (2 * a + b / 64) 0) (2 ^ (b % 64))
-  pair_word a b ha hb = get_or-set_same m (2 * a + b / 64) _ 0 (omega arith)
+-- bit b of row a is number 128 * a + b of the set that the words hold
+pub on_member : (m : List ℕ) (a b : ℕ) → on m a b ≡ member m (128 * a + b)
+unfolding on member
+on_member m a b =
+    let word : (128 * a + b) / 64 ≡ 2 * a + b / 64 = omega arith in
+    let place : (128 * a + b) % 64 ≡ b % 64 = omega arith in
+    rw (word, place)
 
-  pub on_pair : (a b : ℕ) → a < 96 → b < 96 → on (with_pair m a b) a b ≡ true
-  unfolding on
-  on_pair a b ha hb = rw (pair_word a b ha hb, bit-or, bit_one (b % 64), or-true)
+-- that number put into the set
+module _ (m m' : List ℕ) (a b : ℕ) (put : Added (128 * a + b) true m m') where
+  pub on_put : on m' a b ≡ true
+  on_put = rw (on_member m' a b, put.at (128 * a + b), eq-eqb (128 * a + b) (128 * a + b) refl, or-true)
 
-  pub on_pair_other : (a b x y : ℕ) → a < 96 → b < 96 → y < 96 → (x ≡ a → y ≡ b → ⊥) → on (with_pair m a b) x y ≡ on m x y
-  unfolding on
-  on_pair_other a b x y ha hb hy ne =
-      elim (ℕ_discrete (2 * x + y / 64) (2 * a + b / 64)) [
-        | no d ↦ rw (get_or-set_other m _ _ _ 0 d)
-        | yes e ↦
-            let other : b % 64 ≢ y % 64 = λ q. ne (omega arith) (omega arith) in
-            rw (e, pair_word a b ha hb, bit-or, bit_one_other (b % 64) (y % 64) other, or-false)
-      ]
+  pub on_put_other : (x y : ℕ) → b < 128 → y < 128 → (x ≡ a → y ≡ b → ⊥) → on m' x y ≡ on m x y
+  on_put_other x y hb hy ne =
+      let apart : 128 * x + y ≢ 128 * a + b = λ q. ne (omega arith) (omega arith) in
+      rw (on_member m' x y, put.at (128 * x + y), ne_eqb (128 * x + y) (128 * a + b) apart, or-false)
+      (sym (on_member m x y))

@@ -1,12 +1,8 @@
 -- What becomes of a matrix: a pair or a row stored, a relation added, the ways through a node added, closed. What may
 -- be in one.
-use Rattle.std.specs.Prelude.{◌≡◌, true, false, ◌&&◌, ◌||◌, List, ◌↔◌, ◌⊎◌, ℕ, ◌+◌, ◌*◌, ◌/◌, ◌%◌, ◌^◌, ◌≤◌, ◌<◌, get_or, set}
+use Rattle.std.specs.Prelude.{◌≡◌, true, false, ◌&&◌, ◌||◌, List, ◌↔◌, ◌⊎◌, ℕ, ◌+◌, ◌*◌, ◌≤◌, ◌<◌, get_or, set}
 use Rattle.std.specs.Int.Bits.{bit_or}
 use Rattle.order.specs.Precedence.{on}
-
--- m with b in row a
-abbrev pub with_pair : List ℕ → ℕ → ℕ → List ℕ
-with_pair m a b = set m (2 * a + b / 64) (bit_or (get_or m (2 * a + b / 64) 0) (2 ^ (b % 64)))
 
 -- m with row k in row a
 abbrev pub with_row : List ℕ → ℕ → ℕ → List ℕ

@@ -6,6 +6,8 @@ use Rattle.model.specs.Skeleton.{Node, Skeleton}
 use Rattle.model.specs.Events.{Before}
 use Rattle.tables.specs.Layout.{strand_count, order_count, orders}
 use Rattle.tables.specs.Tables.{byte, node_at}
+-- a node within the room of a block: a matrix has a row for it
+pub use Rattle.tables.specs.Nodes.{Low}
 
 -- whether b is in row a
 unfoldable pub on : List ℕ → ℕ → ℕ → Bool
@@ -13,11 +15,6 @@ on m a b = bit (get_or m (2 * a + b / 64) 0) (b % 64)
 
 abbrev pub code : Node → ℕ
 code n = 16 * n.strand + n.position
-
--- a node that a matrix has a row for
-pub record Low (n : Node) : Type 0 where
-  pub strand : n.strand < 6
-  pub position : n.position < 16
 
 -- the matrix m says what comes before what in K
 pub record Shows {M : Type 0} (K : Skeleton M) (m : List ℕ) : Type 0 where

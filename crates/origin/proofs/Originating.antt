@@ -13,7 +13,7 @@ use Rattle.tables.specs.Layout.{strand_count}
 use Rattle.tables.specs.Tables.{byte, skeleton_at, Block}
 use Rattle.origin.specs.declared.Appears.{Appears}
 use Rattle.origin.specs.declared.Origins.{Origins}
-use Rattle.origin.specs.declared.Next.{Next}
+use Rattle.std.specs.Prelude.{Some, None}
 use Rattle.origin.specs.Marked.{node, NoneBefore, FirstSent, FirstReceived, AppearsAs, sent, received, OriginatesAs}
 use Rattle.origin.specs.Passing.{NoneFrom, NextIs, here}
 use Rattle.tables.proofs.Nodes.{at_stands, strand_low}
@@ -79,27 +79,27 @@ module _ {K : Skeleton ℕ} {marks : ℕ → Bool} {a : ℕ} where
       }
 
   pub next_here : {n : Code.Node} → a ≤ n.strand.0 → Missing K marks a n.strand.0
-      → AppearsAs K marks n.strand.0 (Appears.Sent n.position) → NextIs K marks a (Next.Here n)
+      → AppearsAs K marks n.strand.0 (Appears.Sent n.position) → NextIs K marks a (Some n)
   unfolding node_of
   next_here l w h = here l (sent_first h) w.none
 
 module _ {marks : ℕ → Bool} {a : ℕ} where
   pub next_nowhere : (t : List ℕ) (b : ℕ) {s : ℕ} → Missing (skeleton_at t b) marks a s → byte t (b + strand_count) ≤ s
-      → NextIs (skeleton_at t b) marks a Next.Nowhere
+      → NextIs (skeleton_at t b) marks a None
   next_nowhere t b w l = NextIs.nowhere (λ m h f. w.none m h (omega (arith, (at_stands t b f.at).there.strand)) f)
 
   pub origin_low : {t : List ℕ} {b : ℕ} {n : Code.Node} → Block t b
-      → NextIs (skeleton_at t b) marks a (Next.Here n) → n.strand.0 < 6
+      → NextIs (skeleton_at t b) marks a (Some n) → n.strand.0 < 6
   unfolding node_of
   origin_low block (here l f w) = strand_low block f.at
 
 -- From the next origins to all
 
 module _ {K : Skeleton ℕ} {marks : ℕ → Bool} where
-  pub none_at_all : NextIs K marks 0 Next.Nowhere → OriginatesAs K marks Origins.Nowhere
+  pub none_at_all : NextIs K marks 0 None → OriginatesAs K marks Origins.Nowhere
   none_at_all (NextIs.nowhere none) = OriginatesAs.nowhere (λ m f. none m (omega arith) f)
 
-  pub one_alone : {n : Code.Node} → NextIs K marks 0 (Next.Here n) → NextIs K marks (n.strand.0 + 1) Next.Nowhere
+  pub one_alone : {n : Code.Node} → NextIs K marks 0 (Some n) → NextIs K marks (n.strand.0 + 1) None
       → OriginatesAs K marks (Origins.At n)
   unfolding node_of
   one_alone {n} (here l f w) (NextIs.nowhere none) = OriginatesAs.at f (λ m g. one_origin m (node_of n) g f (same m g))
@@ -111,7 +111,7 @@ module _ {K : Skeleton ℕ} {marks : ℕ → Bool} where
             | no h ↦ elim (ℕ_discrete m.strand n.strand.0) [ yes e ↦ e | no ne ↦ absurd (none m (omega arith) g) ]
           ]
 
-  pub two_apart : {n k : Code.Node} → NextIs K marks 0 (Next.Here n) → NextIs K marks (n.strand.0 + 1) (Next.Here k)
+  pub two_apart : {n k : Code.Node} → NextIs K marks 0 (Some n) → NextIs K marks (n.strand.0 + 1) (Some k)
       → OriginatesAs K marks Origins.Several
   unfolding node_of
   two_apart (here l f w) (here h g v) = OriginatesAs.several f g (λ e. omega arith)

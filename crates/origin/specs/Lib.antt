@@ -1,4 +1,3 @@
 -- What the contracts of `origin` cite.
 pub mod Marked
-pub mod Nodes
 pub mod Passing

@@ -1,11 +1,10 @@
 -- What is known while the nodes of K are passed, one after the other.
-use Rattle.std.specs.Prelude.{◌≡◌, Bool, true, ℕ, ◌+◌, ◌*◌, ◌≤◌, ◌<◌}
+use Rattle.std.specs.Prelude.{◌≡◌, Bool, true, ℕ, ◌+◌, ◌*◌, ◌≤◌, ◌<◌, Option, Some, None}
 use Rattle.terms.specs.declared.TermSet.{TermSet}
 use Rattle.terms.specs.declared.Node as Code
 use Rattle.terms.specs.Set.{mem}
 use Rattle.model.specs.Skeleton.{Event, message, Node, Skeleton, At}
 use Rattle.model.specs.Says.{node_of}
-use Rattle.origin.specs.declared.Next.{Next}
 use Rattle.origin.specs.Marked.{FirstSent}
 
 -- the set has the messages of the events before position p of strand s, and no others than messages of events
@@ -19,6 +18,6 @@ module _ (K : Skeleton ℕ) (marks : ℕ → Bool) where
   NoneFrom a n = (m : Node) → a ≤ m.strand → m.strand < n → ¬ FirstSent K marks m
 
   -- the first origin on the strands from a on
-  pub data NextIs (a : ℕ) : Next → Type 0 where
-    nowhere : ((m : Node) → a ≤ m.strand → ¬ FirstSent K marks m) → NextIs a Next.Nowhere
-    here : {n : Code.Node} → a ≤ n.strand.0 → FirstSent K marks (node_of n) → NoneFrom a n.strand.0 → NextIs a (Next.Here n)
+  pub data NextIs (a : ℕ) : Option Code.Node → Type 0 where
+    nowhere : ((m : Node) → a ≤ m.strand → ¬ FirstSent K marks m) → NextIs a None
+    here : {n : Code.Node} → a ≤ n.strand.0 → FirstSent K marks (node_of n) → NoneFrom a n.strand.0 → NextIs a (Some n)

@@ -1,4 +1,6 @@
 -- The tests of the arguments say whether the sheet in the table has what is asked for. Assumes nothing.
+use Rattle.std.proofs.Common.{MatchBool}
+use Rattle.std.specs.List.{AllWithin, HoldsAt}
 use mathlib.Core.Path.{◌≡◌, refl, sym, ap}
 use mathlib.Core.Bool.{Bool, true, false, ◌&&◌, true≢false}
 use mathlib.Core.List.{List}
@@ -12,16 +14,17 @@ use Rattle.model.specs.Table.{Row}
 use Rattle.model.specs.Sheet.{Drawing, HasSkeleton}
 use Rattle.model.specs.Skeleton.{recv, Node, At}
 use Rattle.model.specs.Answers.{HasTerms, HasReception, HasReceptionAndTerm}
+use Rattle.tables.specs.declared.drawing.Drawing as Code
 use Rattle.tables.proofs.Look.{count_is}
 use Rattle.theory.specs.Places.{listed_at, stands}
-use Rattle.tables.specs.Layout.{block, skeleton_count}
-use Rattle.tables.specs.Tables.{byte, rows_in, skeleton_in, sheet_in, Filled}
-use Rattle.order.specs.Precedence.{Low}
+use Rattle.tables.specs.Layout.{block}
+use Rattle.tables.specs.Tables.{byte, rows_in, skeleton_at, skeleton_in, sheet_in}
+use Rattle.order.specs.Precedence.{Low, Shows}
 use Rattle.tables.proofs.Nodes.{strand_low, position_low}
-use Rattle.tables.specs.Drawn.{drawing, Drawn}
-use Rattle.realized.specs.Ready.{Ordering, Ready}
+use Rattle.tables.specs.Drawn.{drawing}
+use Rattle.realized.specs.Ready.{Ready}
 use Rattle.accept.specs.Held.{Stored}
-use Rattle.accept.proofs.Lies.{has_skeleton, skeleton_lies, is_drawn, is_right}
+use Rattle.accept.proofs.Lies.{skeleton_lies, is_right}
 use Rattle.theory.specs.GoodTable.{Good}
 use Rattle.theory.specs.Judgement.{Sound}
 use Rattle.carry.specs.Sets.{AreTerms}
@@ -29,12 +32,13 @@ use Rattle.questions.specs.Subject.{Has, there, none, AllBelow}
 
 -- The lent numbers
 
-pub all_passed : (l : List ℕ) (n q : ℕ) → q ≡ length l → ((i : ℕ) → i < q → get_or l i 0 < n) → AllBelow n l
-all_passed l n q e f =
-    record { all = λ i m. let s = stands 0 m in rw s.is at (f s.place (omega (arith, s.inside))) }
-
-pub one_not : (l : List ℕ) (n q : ℕ) → q < length l → n ≤ get_or l q 0 → ¬ AllBelow n l
-one_not l n q h g a = omega (arith, a.all (get_or l q 0) (listed_at l q 0 h))
+pub all_below : (r : Bool) (l : List ℕ) (n : ℕ)
+    → MatchBool r (AllWithin (λ x. x < n) l 0 (length l)) ((k : ℕ) × (k < length l) × HoldsAt (λ x. n ≤ x) l k)
+    → (r ≡ true) ↔ AllBelow n l
+all_below true l n h =
+    (λ e. record { all = λ i m. let s = stands 0 m in rw s.is at (h s.place 0 (omega arith) s.inside) }, λ a. refl)
+all_below false l n (k, i, h) =
+    (λ e. absurd (true≢false (sym e)), λ a. absurd (omega (arith, h 0, a.all (get_or l k 0) (listed_at l k 0 i))))
 
 -- Terms
 
@@ -79,67 +83,40 @@ good_rows t s = s.good
 
 -- Skeletons
 
-module _ (t : List ℕ) (k : ℕ) where
-  pub skeleton_had : {r : Bool} → (r ≡ true) ↔ (k < byte t skeleton_count)
-      → Has (HasSkeleton k (sheet_in t)) (drawing t (block k)) r
-  skeleton_had {r} f = go r f
-    where
-      go : (x : Bool) → (x ≡ true) ↔ (k < byte t skeleton_count) → Has (HasSkeleton k (sheet_in t)) (drawing t (block k)) x
-      go true f = there (has_skeleton t k (f.0 refl))
-      go false f = none (λ D h. true≢false (sym (f.1 (skeleton_lies t k D h).inside)))
-
-  inside : HasSkeleton k (sheet_in t) (drawing t (block k)) → k < byte t skeleton_count
-  inside h = (skeleton_lies t k (drawing t (block k)) h).inside
-
-  -- a skeleton of an accepted sheet
-  pub drawn_there : Filled t → Sound (sheet_in t) → HasSkeleton k (sheet_in t) (drawing t (block k)) → Drawn t (block k)
-  drawn_there f s h = is_drawn t f s k (inside h)
-
-  -- all that a question about it needs, the matrix filled
-  pub is_ready : {inverses before : List ℕ} (b : ℕ) → Stored t inverses → HasSkeleton k (sheet_in t) (drawing t (block k))
-      → b ≡ block k
-      → Ordering t (block k) before
-      → Ready t b inverses before
-  is_ready b s h e o =
-      rw e (record {
-        drawn = drawn_there s.filled s.sound h;
-        rules = is_right t s.filled s.sound k (inside h);
-        ordering = o;
-        inverted = s.inverted;
-        many = s.inverses_long;
-      })
+module _ (t : List ℕ) (k : ℕ) (d : Code.Drawing) (same : d.table.now ≡ t) (at : d.block ≡ block k) where
+  -- all that a question about it needs, with the matrix
+  pub is_ready : {inverses before : List ℕ} → Stored t inverses → HasSkeleton k (sheet_in t) (drawing t (block k))
+      → Shows (skeleton_at d.table.now d.block) before
+      → Ready d.table.now d.block inverses before
+  is_ready s h o =
+      let inside = (skeleton_lies t k (drawing t (block k)) h).inside in
+      record { rules = rw (same, at) (is_right t s.filled s.sound k inside); shows = o; inverted = rw same s.inverted }
 
   -- Receptions
 
   module _ (n : Node) where
-    pub nothing_drawn : {b : Bool} → Has (HasSkeleton k (sheet_in t)) (drawing t (block k)) b → b ≡ false
-        → Has (HasReception k n (sheet_in t)) (drawing t (block k)) false
-    nothing_drawn (there h) e = absurd (true≢false e)
-    nothing_drawn (none f) e = none (λ D h. f D h.drawing)
-
-    pub nothing_heard : ((m : ℕ) → ¬ At (skeleton_in t k) n (recv m))
-        → Has (HasReception k n (sheet_in t)) (drawing t (block k)) false
-    nothing_heard f =
-        none (λ D h.
+    pub nothing_heard : ((m : ℕ) → ¬ At (skeleton_at d.table.now d.block) n (recv m)) → (D : Drawing)
+        → ¬ HasReception k n (sheet_in t) D
+    nothing_heard f D h =
         let e : skeleton_in t k ≡ D.skeleton = ap (λ (E : Drawing). E.skeleton) (skeleton_lies t k D h.drawing).is in
-        f h.message (rw (← e) at h.at))
+        f h.message (rw (same, at, e) h.at)
 
-    pub heard_there : {b : Bool} {m : ℕ} → Has (HasSkeleton k (sheet_in t)) (drawing t (block k)) b → b ≡ true
-        → At (skeleton_in t k) n (recv m)
-        → Has (HasReception k n (sheet_in t)) (drawing t (block k)) true
-    heard_there {m} (there h) e a = there (record { drawing = h; message = m; at = a })
-    heard_there (none f) e a = absurd (true≢false (sym e))
-
-    pub with_term : (u : ℕ) (b : Bool) → Has (HasReception k n (sheet_in t)) (drawing t (block k)) b
-        → Has (HasReceptionAndTerm k n u (sheet_in t)) (drawing t (block k)) (b && ltb u (byte t 600))
-    with_term u false (none f) = none (λ D h. f D h.reception)
-    with_term u true (there h) = go (ltb u (byte t 600)) refl
-      where
-        go : (x : Bool) → ltb u (byte t 600) ≡ x → Has (HasReceptionAndTerm k n u (sheet_in t)) (drawing t (block k)) x
-        go true e = there (record { reception = h; a_term = rw (count_is t) (ltb-true u (byte t 600) e) })
-        go false e =
-            none (λ D g. omega (arith, g.a_term, ltb-false u (byte t 600) e, terms_of t g.reception.drawing.rows))
+    pub heard_there : {m : ℕ} → HasSkeleton k (sheet_in t) (drawing t (block k))
+        → At (skeleton_at d.table.now d.block) n (recv m)
+        → HasReception k n (sheet_in t) (drawing t (block k))
+    heard_there {m} h a = record { drawing = h; message = m; at = rw (same, at) at a }
 
     -- a matrix has a row for it
-    pub reception_low : Drawn t (block k) → HasReception k n (sheet_in t) (drawing t (block k)) → Low n
-    reception_low d h = record { strand = strand_low d.block h.at; position = position_low d.block h.at }
+    pub reception_low : HasReception k n (sheet_in t) (drawing t (block k)) → Low n
+    reception_low h =
+        let a : At (skeleton_at d.table.now d.block) n (recv h.message) = rw (same, at) h.at in
+        record { strand = strand_low d.drawn.block a; position = position_low d.drawn.block a }
+
+-- a sheet without the term
+pub term_missing : (t : List ℕ) {k u : ℕ} {n : Node} → byte t 600 ≤ u → (D : Drawing)
+    → ¬ HasReceptionAndTerm k n u (sheet_in t) D
+term_missing t l D g = omega (arith, g.a_term, terms_of t g.reception.drawing.rows)
+
+pub with_term : (t : List ℕ) {k u : ℕ} {n : Node} → HasReception k n (sheet_in t) (drawing t (block k)) → u < byte t 600
+    → HasReceptionAndTerm k n u (sheet_in t) (drawing t (block k))
+with_term t h l = record { reception = h; a_term = rw (count_is t) l }

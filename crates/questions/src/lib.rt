@@ -1,57 +1,36 @@
-// Questions about a sheet that lies accepted in lent tables. Each tests first whether the sheet has what is asked for.
+// Questions about an accepted sheet. Each tests first whether the sheet has what is asked for.
 #![tactic(auto)]
 
-ghost use Rattle.std.specs.Prelude.{◌≡◌, true, [], ◌↔◌, ◌<◌, length};
-ghost use Rattle.model.specs.Sheet.{Verdict, HasSkeleton};
-ghost use Rattle.model.specs.Answers.{answered, refusal, HasTerms, HasReception, HasReceptionAndTerm};
+ghost use Rattle.std.specs.Prelude.{◌≡◌, true, [], ◌↔◌, ◌<◌};
+ghost use Rattle.model.specs.Sheet.{Verdict};
+ghost use Rattle.model.specs.Answers.{refusal, HasTerms};
 ghost use Rattle.model.specs.Answers.{AskWithin, AskRealized, AskDerivable, AskReach};
 ghost use Rattle.model.specs.Says.{node_of, refusal_of, yes_no_says, realized_says, reach_says};
-ghost use Rattle.theory.specs.Judgement.{Sound};
-ghost use Rattle.tables.specs.Layout.{block};
-ghost use Rattle.tables.specs.Tables.{rows_in, sheet_in, Filled};
-ghost use Rattle.tables.specs.Drawn.{drawing, Drawn};
-ghost use Rattle.realized.specs.Ready.{Ordering};
-ghost use Rattle.accept.specs.Held.{Stored};
-ghost use Rattle.questions.specs.Subject.{Has, AllBelow, openness};
+ghost use Rattle.tables.specs.Tables.{rows_in, sheet_in, skeleton_at, Filled};
+ghost use Rattle.order.specs.Precedence.{Shows};
+ghost use Rattle.questions.specs.Subject.{Has, AllBelow, HeardAs};
 
-use model::{ReachAnswer, RealizedAnswer, Refusal, YesNo};
-use order::precedence;
-use origin::{At, event_is};
-use realized::{Open, count_reached, first_open, reached_before};
-use tables::TERM_COUNT;
-use tables::blocks::{block_of, has_skeleton};
+use accept::sheet::Sheet;
+use model::{Answer, Reason, Refusal};
+use order::Precedence;
+use realized::Scene;
+use tables::blocks::Event;
+use tables::drawing::Drawing;
+use tables::rows::terms_in;
 use terms::{Node, Term};
 
 // "15: no such skeleton, term, or reception asked for"
 fn no_such() -> Refusal
     ensures { refusal_of result ≡ refusal 15 }
 {
-    Refusal {
-        number: 15,
-        place: 0,
-        skeleton: 0,
-    }
-}
-
-fn yes_or_no(so: bool) -> YesNo
-    ensures { yes_no_says result ≡ answered so }
-{
-    if so {
-        return YesNo::Yes;
-    }
-    YesNo::No
+    Refusal::from(Reason::NoSuch)
 }
 
 // Whether all lent numbers are below the count of terms.
 fn all_terms(numbers: &[u8], count: u8) -> bool
     ensures { (result ≡ true) ↔ AllBelow count numbers.now }
 {
-    for q in 0..numbers.len() {
-        if numbers[q] >= count {
-            return false;
-        }
-    }
-    true
+    numbers.iter().all(|number| *number < count)
 }
 
 // Whether `t`, `inside` and all lent numbers are terms of the sheet.
@@ -60,112 +39,88 @@ fn has_terms(table: &[u8], t: Term, inside: Term, set: &[u8]) -> bool
     ensures { Has (HasTerms t.0 inside.0 set.now (sheet_in table.now))
         (rows_in table.now) result }
 {
-    let count = table[TERM_COUNT];
+    let count = terms_in(table);
     (t.0 < count) & (inside.0 < count) & all_terms(set, count)
 }
 
 // "Carried only within": whether `t` is carried only within the lent terms in the term `inside`.
-pub fn within(table: &[u8], t: Term, inside: Term, set: &[u8]) -> YesNo
-    requires { Filled table.now × Sound (sheet_in table.now) }
-    ensures { AskWithin t.0 inside.0 set.now (Verdict.accepted (sheet_in table.now))
+pub fn within(sheet: &Sheet, t: Term, inside: Term, set: &[u8]) -> Answer<bool>
+    ensures { AskWithin t.0 inside.0 set.now (Verdict.accepted (sheet_in sheet.now.table))
         (yes_no_says result) set.now }
 {
-    if !has_terms(table, t, inside, set) {
-        return YesNo::Refused(no_such());
+    if !has_terms(&sheet.table, t, inside, set) {
+        return Err(no_such());
     }
-    yes_or_no(carry::within(table, t, inside, set))
+    Ok(carry::within(&sheet.table, t, inside, set))
 }
 
-// Fills the matrix of a skeleton, and says where the skeleton's block begins.
-fn prepare(table: &[u8], before: &mut [u64], skeleton: u8) -> usize
-    requires { Drawn table.now (block skeleton) × (length before.old ≡ 192) }
-    ensures { (result ≡ block skeleton) × Ordering table.now (block skeleton) before.new }
+// What comes before what in a skeleton. Each question makes a `Scene` of it for itself: a `Scene` lends the matrix that the question
+// owns, so no function could hand both out.
+fn precedence(skeleton: Drawing) -> Precedence
+    ensures { Shows (skeleton_at skeleton.entry.table.now skeleton.entry.block) result.words }
 {
-    let block = block_of(skeleton);
-    precedence(table, block, before);
-    block
+    Precedence::of(skeleton.table, skeleton.block)
 }
 
-fn open_answer(first: Open) -> RealizedAnswer
-    ensures { realized_says result ≡ answered (openness first) }
+// "Realized": whether the skeleton is, or else its first open reception.
+pub fn realized(sheet: &Sheet, skeleton: u8) -> Answer<Option<Node>>
+    ensures { AskRealized skeleton (Verdict.accepted (sheet_in sheet.now.table)) (realized_says result) [] }
 {
-    match first {
-        Open::Nothing => RealizedAnswer::Realized,
-        Open::At(node) => RealizedAnswer::Open(node),
-    }
-}
-
-// "Realized": whether the skeleton is, or else its first open reception. The words of `before` are for its matrix.
-pub fn realized(table: &[u8], inverses: &[u8], before: &mut [u64], skeleton: u8) -> RealizedAnswer
-    requires { Stored table.now inverses.now × (length before.old ≡ 192) }
-    ensures { AskRealized skeleton (Verdict.accepted (sheet_in table.now)) (realized_says result) [] }
-{
-    if !has_skeleton(table, skeleton) {
-        return RealizedAnswer::Refused(no_such());
-    }
-    let block = prepare(table, before, skeleton);
-    open_answer(first_open(table, block, inverses, before))
-}
-
-// Whether the sheet has the skeleton, and the skeleton a reception at the node.
-fn has_reception(table: &[u8], skeleton: u8, node: Node) -> bool
-    requires { Filled table.now × Sound (sheet_in table.now) }
-    ensures { Has (HasReception skeleton (node_of node) (sheet_in table.now))
-        (drawing table.now (block skeleton)) result }
-{
-    if !has_skeleton(table, skeleton) {
-        return false;
-    }
-    let block = block_of(skeleton);
-    let At::Reception(heard) = event_is(table, block, node) else {
-        return false;
+    let Some(skeleton) = sheet.skeleton(skeleton) else {
+        return Err(no_such());
     };
-    true
+    let before = precedence(skeleton);
+    let scene = Scene {
+        skeleton,
+        inverses: &sheet.inverses,
+        before: &before,
+    };
+    Ok(scene.first_open())
 }
 
-// The same, and the sheet the term.
-fn has_reception_and_term(table: &[u8], skeleton: u8, node: Node, term: Term) -> bool
-    requires { Filled table.now × Sound (sheet_in table.now) }
-    ensures { Has (HasReceptionAndTerm skeleton (node_of node) term.0 (sheet_in table.now))
-        (drawing table.now (block skeleton)) result }
+// The skeleton, if the sheet has it and it has a reception at the node.
+fn skeleton_heard(sheet: &Sheet, skeleton: u8, node: Node) -> Option<Drawing>
+    ensures { HeardAs sheet.now.table skeleton (node_of node) result }
 {
-    has_reception(table, skeleton, node) & (term.0 < table[TERM_COUNT])
+    let skeleton = sheet.skeleton(skeleton)?;
+    let Some(Event::Reception(_)) = skeleton.event_at(node) else {
+        return None;
+    };
+    Some(skeleton)
 }
 
-// "Derivable before": whether the term is derivable before the reception. The words of `before` are for the skeleton's matrix.
-pub fn derivable(
-    table: &[u8],
-    inverses: &[u8],
-    before: &mut [u64],
-    skeleton: u8,
-    node: Node,
-    term: Term,
-) -> YesNo
-    requires { Stored table.now inverses.now × (length before.old ≡ 192) }
-    ensures { AskDerivable skeleton (node_of node) term.0 (Verdict.accepted (sheet_in table.now))
+// "Derivable before": whether the term is derivable before the reception.
+pub fn derivable(sheet: &Sheet, skeleton: u8, node: Node, term: Term) -> Answer<bool>
+    ensures { AskDerivable skeleton (node_of node) term.0 (Verdict.accepted (sheet_in sheet.now.table))
         (yes_no_says result) [] }
 {
-    if !has_reception_and_term(table, skeleton, node, term) {
-        return YesNo::Refused(no_such());
+    let Some(skeleton) = skeleton_heard(sheet, skeleton, node) else {
+        return Err(no_such());
+    };
+    if terms_in(&sheet.table) <= term.0 {
+        return Err(no_such());
     }
-    let block = prepare(table, before, skeleton);
-    yes_or_no(reached_before(table, block, inverses, before, node).has(term))
+    let before = precedence(skeleton);
+    let scene = Scene {
+        skeleton,
+        inverses: &sheet.inverses,
+        before: &before,
+    };
+    Ok(scene.reached_before(node).has(term))
 }
 
-// "Reach": how many of the sheet's terms are derivable before the reception. The words of `before` are for the skeleton's matrix.
-pub fn reach(
-    table: &[u8],
-    inverses: &[u8],
-    before: &mut [u64],
-    skeleton: u8,
-    node: Node,
-) -> ReachAnswer
-    requires { Stored table.now inverses.now × (length before.old ≡ 192) }
-    ensures { AskReach skeleton (node_of node) (Verdict.accepted (sheet_in table.now)) (reach_says result) [] }
+// "Reach": how many of the sheet's terms are derivable before the reception.
+pub fn reach(sheet: &Sheet, skeleton: u8, node: Node) -> Answer<usize>
+    ensures { AskReach skeleton (node_of node) (Verdict.accepted (sheet_in sheet.now.table)) (reach_says result) [] }
 {
-    if !has_reception(table, skeleton, node) {
-        return ReachAnswer::Refused(no_such());
-    }
-    let block = prepare(table, before, skeleton);
-    ReachAnswer::Reach(count_reached(table, block, inverses, before, node))
+    let Some(skeleton) = skeleton_heard(sheet, skeleton, node) else {
+        return Err(no_such());
+    };
+    let before = precedence(skeleton);
+    let scene = Scene {
+        skeleton,
+        inverses: &sheet.inverses,
+        before: &before,
+    };
+    Ok(scene.count_reached(node))
 }

@@ -1,7 +1,8 @@
 -- A good record has room in the table, and takes two bytes or more of the remainder, and no more than there are.
 use Prim.Native.Nat.{ℕ, zero, suc, ◌+◌, ◌≤◌, ◌<◌}
-use mathlib.Core.Path.{◌≡◌, subst}
+use mathlib.Core.Path.{◌≡◌}
 use mathlib.Core.List.{List}
+use mathlib.Core.Option.{Option}
 use native.Mathlib.Numerals.{add-one}
 use native.Mathlib.Omega.{arith}
 use lib.ListN.{length}
@@ -9,42 +10,29 @@ use Rattle.model.specs.Reading as Reading
 use Rattle.model.specs.Skeleton.{Skeleton}
 use Rattle.model.specs.Reading.{edition, term, begin, strand, order, non, uniq, end, size, says}
 use Rattle.tables.specs.Layout.{skeleton_count, block, strand_count, order_count, non_count, uniq_count}
-use Rattle.tables.specs.Stores.{HasRoom}
-use Rattle.tables.specs.Tables.{Filled, skeleton_at, byte}
+use Rattle.tables.specs.Tables.{skeleton_at, byte}
+use Rattle.tables.specs.declared.blocks.Assumed.{Assumed}
 use Rattle.theory.specs.Upto.{length-upto}
 use Rattle.tables.proofs.Look.{length-rows, length_strands, length-orders, length_nons, length_uniqs, length-drawn}
-use Rattle.records.specs.Marks.{the_mark}
 use Rattle.records.specs.Said.{record_of, Whole}
 use Rattle.records.specs.declared.readers.Record.{Record}
-use Rattle.records.specs.declared.readers.Answer.{Answer}
-use Rattle.reading.specs.States.{state_in, Underway, InWork, Room}
+use Rattle.reading.specs.States.{state_in, Inside, Underway, InWork, Room}
 use Rattle.reading.proofs.Keeps.{at_work}
-use Rattle.reading.proofs.Told.{Inside, Told}
-
--- a skeleton has begun where the last mark is SK or a later one
-pub from_SK : (last : ℕ) → Inside (the_mark last) → 3 ≤ last
-from_SK zero i = absurd i
-from_SK (suc zero) i = absurd i
-from_SK (suc (suc zero)) i = absurd i
-from_SK (suc (suc (suc n))) i = omega arith
+use Rattle.reading.proofs.Told.{Told}
 
 some_k : (n : ℕ) → 0 < n → (k : ℕ) × (k + 1 ≡ n)
 some_k zero l = absurd (omega arith)
 some_k (suc n) l = (n, add-one n)
 
-module _ (last : ℕ) (t rest : List ℕ) (u : Underway last t) where
-  a_skeleton : Inside (the_mark last) → 0 < byte t skeleton_count
-  a_skeleton i = u.begun (from_SK last i)
-
+module _ (last : Option Reading.Mark) (t rest : List ℕ) (u : Underway last t) where
   -- where the definition counts less than the most of a skeleton's records, the table does
   in_work_room : (count most : ℕ) (counts : Skeleton ℕ → ℕ) → ((b : ℕ) → counts (skeleton_at t b) ≡ byte t (b + count))
-      → Inside (the_mark last) → counts (Reading.in_work (state_in last t)) < most → InWork t count most
+      → Inside last → counts (Reading.in_work (state_in last t)) < most → InWork t count most
   in_work_room count most counts same i h =
-      let k = some_k (byte t skeleton_count) (a_skeleton i) in
+      let k = some_k (byte t skeleton_count) (u.begun i) in
       record { k = k.0; last = k.1; room = rw (at_work t k.0 k.1 last, same (block k.0)) at h }
 
-  pub room : (said : Record) → Whole (Answer.Good said) → Told (state_in last t) rest (says (record_of said rest))
-      → Room t said rest
+  pub room : (said : Record) → Whole said → Told (state_in last t) rest (says (record_of said rest)) → Room t said rest
   room Record.Edition w h = tt
   room (Record.Term row) w h = (rw length-rows at h.0, w)
   room Record.Begin w h = rw length-drawn at h.0
@@ -54,9 +42,9 @@ module _ (last : ℕ) (t rest : List ℕ) (u : Underway last t) where
     rw length-upto at h.2,
   )
   room (Record.Order send reception) w h = in_work_room order_count 64 (λ K. length K.order) (length-orders t) h.2 h.0
-  room (Record.Non atom) w h = in_work_room non_count 32 (λ K. length K.non) (length_nons t) h.2 h.0
-  room (Record.Uniq atom) w h = in_work_room uniq_count 32 (λ K. length K.uniq) (length_uniqs t) h.2 h.0
-  room Record.End w h = a_skeleton h.1
+  room (Record.Atom Assumed.Non atom) w h = in_work_room non_count 32 (λ K. length K.non) (length_nons t) h.2 h.0
+  room (Record.Atom Assumed.Uniq atom) w h = in_work_room uniq_count 32 (λ K. length K.uniq) (length_uniqs t) h.2 h.0
+  room Record.End w h = u.begun h.1
 
 pub size_most : (s : Reading.State) (rest : List ℕ) (r : Reading.Record) → Told s rest (says r) → size r ≤ length rest
 unfolding size
@@ -79,10 +67,3 @@ size_some (order m n) = omega arith
 size_some (non a) = omega arith
 size_some (uniq a) = omega arith
 size_some end = omega arith
-
--- the last skeleton is the one that has room
-pub in_last : {t : List ℕ} {count most : ℕ} → Filled t → InWork t count most → (k : ℕ) → k + 1 ≡ byte t skeleton_count
-    → HasRoom k count most t
-in_last {t} {count} {most} f w k e =
-    let same : w.k ≡ k = omega (arith, w.last) in
-    record { filled = f; there = omega arith; room = subst (λ j. byte t (block j + count) < most) same w.room }

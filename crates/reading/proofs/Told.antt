@@ -17,18 +17,7 @@ use Rattle.model.specs.Skeleton.{Node}
 use Rattle.tables.specs.Rows.{row_of, kind_of, by_kinds}
 use Rattle.tables.specs.declared.rows.Row as TableRow
 use Rattle.tables.proofs.Right.{read_by_kinds}
-
--- a skeleton has begun
-abbrev pub Inside : Option Mark → Type 0
-Inside none = ⊥
-Inside (some BS) = ⊥
-Inside (some TM) = ⊥
-Inside (some SK) = Unit {0}
-Inside (some ST) = Unit {0}
-Inside (some OR) = Unit {0}
-Inside (some NO) = Unit {0}
-Inside (some UO) = Unit {0}
-Inside (some EN) = Unit {0}
+use Rattle.reading.specs.States.{Inside, Inner}
 
 -- what an answer tells of the record, if it is good
 abbrev pub Told : State → List ℕ → Said → Type 0
@@ -58,27 +47,17 @@ marked_one a b P (n ∷ ms) m h e =
     go true r q = let w : n ≡ m = cc in subst P w h.0
     go false r q = r q
 
-abbrev pub Outer : Mark → Type 0
-Outer BS = Unit {0}
-Outer TM = Unit {0}
-Outer SK = Unit {0}
-Outer ST = ⊥
-Outer OR = ⊥
-Outer NO = ⊥
-Outer UO = ⊥
-Outer EN = ⊥
-
-pub inside : (a b : ℕ) (l : Option Mark) (m : Mark) → (Outer m → ⊥) → marked_as a b (may_follow l) ≡ some m → Inside l
+pub inside : (a b : ℕ) (l : Option Mark) (m : Mark) → Inner m → marked_as a b (may_follow l) ≡ some m → Inside l
 unfolding may_follow
-inside a b none m h e = h (marked_one a b Outer (BS ∷ []) m (tt, tt) e)
-inside a b (some BS) m h e = h (marked_one a b Outer (TM ∷ SK ∷ []) m (tt, (tt, tt)) e)
-inside a b (some TM) m h e = h (marked_one a b Outer (TM ∷ SK ∷ []) m (tt, (tt, tt)) e)
-inside a b (some SK) m h e = tt
-inside a b (some ST) m h e = tt
-inside a b (some OR) m h e = tt
-inside a b (some NO) m h e = tt
-inside a b (some UO) m h e = tt
-inside a b (some EN) m h e = tt
+inside a b none m i e = marked_one a b (λ n. Inner n → ⊥) (BS ∷ []) m ((λ x. x), tt) e i
+inside a b (some BS) m i e = marked_one a b (λ n. Inner n → ⊥) (TM ∷ SK ∷ []) m ((λ x. x), ((λ x. x), tt)) e i
+inside a b (some TM) m i e = marked_one a b (λ n. Inner n → ⊥) (TM ∷ SK ∷ []) m ((λ x. x), ((λ x. x), tt)) e i
+inside a b (some SK) m i e = tt
+inside a b (some ST) m i e = tt
+inside a b (some OR) m i e = tt
+inside a b (some NO) m i e = tt
+inside a b (some UO) m i e = tt
+inside a b (some EN) m i e = tt
 
 -- ---- each reader
 module _ (s : State) (rest : List ℕ) where
@@ -158,11 +137,11 @@ module _ (s : State) (rest : List ℕ) where
   told_as BS whole e = told_BS
   told_as TM whole e = told_TM
   told_as SK whole e = told_SK whole
-  told_as ST whole e = told_ST (inside _ _ s.last ST (λ x. x) e)
-  told_as OR whole e = told_OR (inside _ _ s.last OR (λ x. x) e)
-  told_as NO whole e = told_atom most_nons _ non (λ a b. (a, b, inside _ _ s.last NO (λ x. x) e))
-  told_as UO whole e = told_atom most_uniqs _ uniq (λ a b. (a, b, inside _ _ s.last UO (λ x. x) e))
-  told_as EN whole e = (whole, inside _ _ s.last EN (λ x. x) e)
+  told_as ST whole e = told_ST (inside _ _ s.last ST tt e)
+  told_as OR whole e = told_OR (inside _ _ s.last OR tt e)
+  told_as NO whole e = told_atom most_nons _ non (λ a b. (a, b, inside _ _ s.last NO tt e))
+  told_as UO whole e = told_atom most_uniqs _ uniq (λ a b. (a, b, inside _ _ s.last UO tt e))
+  told_as EN whole e = (whole, inside _ _ s.last EN tt e)
 
   pub told : Told s rest (read_record s rest)
   unfolding read_record need

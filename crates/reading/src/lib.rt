@@ -2,58 +2,61 @@
 #![tactic(auto)]
 
 ghost use Rattle.std.specs.Prelude.{◌≡◌, length};
+ghost use Rattle.model.specs.Reading.{is_end};
 ghost use Rattle.tables.specs.Layout.{table_size};
-ghost use Rattle.reading.specs.Answers.{number_of, ReadInto};
+ghost use Rattle.records.specs.Marks.{last_of};
+ghost use Rattle.reading.specs.Answers.{ReadInto};
 
 pub mod keep;
 pub mod next;
 
 use crate::keep::keep;
 use crate::next::read_record;
-use records::marks::{EN, NONE};
-use records::readers::{Answer, size_of};
+use model::Reason;
+use records::marks::Mark;
 use tables::blocks::clear;
 
-// The answer to a whole sheet: it is read, or it is faulty.
-#[derive(Clone, Copy)]
-pub enum Reading {
-    Read,
-    Faulty { number: u8, place: usize },
+// Why a sheet is faulty, and where.
+#[derive(Clone, Copy, PartialEq, Eq)]
+pub struct Faulty {
+    pub reason: Reason,
+    pub place: usize,
 }
 
-// The number of a refusal, and 0 of a good record.
-fn number_of(answer: Answer) -> u8
-    ensures { result ≡ number_of answer }
+// Whether the sheet has ended: its last record was EN.
+#[tactic(auto, unfolding(model::specs::Reading::is_end))]
+fn ended(last: Option<Mark>) -> bool
+    ensures { result ≡ is_end (last_of last) }
 {
-    match answer {
-        Answer::Good(_) => 0,
-        Answer::Refused(number) => number,
-    }
+    matches!(last, Some(Mark::EN))
 }
 
-// The whole sheet, read into the table: each record's reader is given the remainder.
-pub fn read_sheet(bytes: &[u8], table: &mut [u8]) -> Reading
+// The whole sheet, read into the table: each record's reader is given the remainder. The table is lent: what is read of it is promised
+// on a refusal too, so it outlives the refusal. A record's size is known when it is read, so `at` is counted by hand, and no `for`
+// runs over the records. Each answer is taken apart by `let .. else`, so that the refusal is seen to be returned at once.
+pub fn read_sheet(bytes: &[u8], table: &mut [u8]) -> Result<(), Faulty>
     requires { length table.old ≡ table_size }
     ensures { ReadInto bytes.now result table.new }
 {
     clear(table);
-    let mut last = NONE;
+    let mut last = None;
     let mut at: usize = 0;
-    while last != EN {
+    while !ended(last) {
         let rest = &bytes[at..];
         let answer = read_record(last, table, rest);
-        let Answer::Good(said) = answer else {
-            let number = number_of(answer);
-            return Reading::Faulty { number, place: at };
+        let Ok(said) = answer else {
+            return answer
+                .map(|_| ())
+                .map_err(|reason| Faulty { reason, place: at });
         };
-        last = keep(table, said, rest);
-        at = at + size_of(said);
+        last = Some(keep(table, said, rest));
+        at += said.size();
     }
     if at < bytes.len() {
-        return Reading::Faulty {
-            number: 8,
+        return Err(Faulty {
+            reason: Reason::BytesAfterEnd,
             place: at,
-        };
+        });
     }
-    Reading::Read
+    Ok(())
 }

@@ -1,10 +1,12 @@
 -- Open receptions, node by node and strand by strand. Assumes nothing.
+use Rattle.std.specs.Prelude.{Some, None}
 use mathlib.Core.Path.{◌≡◌, refl, sym, ◌∙◌}
 use mathlib.Core.Bool.{Bool, true, false, not, true≢false}
 use mathlib.Core.List.{List}
 use Prim.Native.Nat.{ℕ, ◌+◌, ◌≤◌, ◌<◌}
 use native.Mathlib.Omega.{arith}
 use native.Mathlib.Decide.{ℕ_discrete, dec_lt}
+use borrow.Author.Count.{below_none, below_more}
 use lib.ListN.{length}
 use Rattle.terms.specs.declared.TermSet.{TermSet}
 use Rattle.terms.specs.declared.Node as Code
@@ -22,8 +24,6 @@ use Rattle.tables.specs.Layout.{strand_count, heights}
 use Rattle.tables.specs.Tables.{byte, rows_in, skeleton_at}
 use Rattle.origin.specs.Marked.{node}
 use Rattle.tables.proofs.Nodes.{at_stands}
-use Rattle.realized.specs.declared.Open.{Open}
-use Rattle.realized.specs.declared.OnStrand.{OnStrand}
 use Rattle.realized.specs.Before.{IsReached}
 use Rattle.tables.specs.Drawn.{drawing, Drawn}
 use Rattle.realized.specs.Opening.{Met, OpenIs, unmet, met, OpenOn, nowhere, here, FirstOpenIs, none, first}
@@ -67,18 +67,17 @@ pub record ClosedBelow (K : Skeleton Term) (s p : ℕ) : Type 0 where
 
 module _ {K : Skeleton Term} {s : ℕ} where
   pub closed_none : ClosedBelow K s 0
-  closed_none = record { each = λ q l. absurd (omega arith) }
+  closed_none = record { each = below_none _ }
 
   pub closed_more : {p : ℕ} → ClosedBelow K s p → OpenIs K (node s p) false → ClosedBelow K s (p + 1)
-  closed_more {p} w (met m) =
-      record { each = λ q l. elim (ℕ_discrete q p) [ yes e ↦ rw e m | no ne ↦ w.each q (omega arith) ] }
+  closed_more {p} w (met m) = record { each = below_more _ p w.each m }
 
-  pub open_here : {p : ℕ} → ClosedBelow K s p → OpenIs K (node s p) true → OpenOn K s (OnStrand.Here p)
+  pub open_here : {p : ℕ} → ClosedBelow K s p → OpenIs K (node s p) true → OpenOn K s (Some p)
   open_here w (unmet u) = here u w.each
 
 module _ {t : List ℕ} {b : ℕ} (d : Drawn t b) where
   pub closed_strand : {s p : ℕ} → ClosedBelow (meant (drawing t b)) s p → byte t (b + heights + s) ≤ p
-      → OpenOn (meant (drawing t b)) s OnStrand.Nowhere
+      → OpenOn (meant (drawing t b)) s None
   closed_strand {s} {p} w l =
       nowhere (λ q. elim (dec_lt q p) [
         | yes h ↦ w.each q h
@@ -95,7 +94,7 @@ module _ {K : Skeleton Term} where
   pub passed_none : Passed K 0
   passed_none = record { each = λ m l. absurd (omega arith) }
 
-  pub passed_more : {s : ℕ} → Passed K s → OpenOn K s OnStrand.Nowhere → Passed K (s + 1)
+  pub passed_more : {s : ℕ} → Passed K s → OpenOn K s None → Passed K (s + 1)
   passed_more {s} w (nowhere f) =
       record {
         each = λ m l. elim (ℕ_discrete m.strand s) [
@@ -104,8 +103,8 @@ module _ {K : Skeleton Term} where
         ];
       }
 
-  pub passed_first : {n : Code.Node} → Passed K n.strand.0 → OpenOn K n.strand.0 (OnStrand.Here n.position)
-      → FirstOpenIs K (Open.At n)
+  pub passed_first : {n : Code.Node} → Passed K n.strand.0 → OpenOn K n.strand.0 (Some n.position)
+      → FirstOpenIs K (Some n)
   unfolding node_of
   passed_first {n} w (here u f) =
       first (record { message = u.message; at = u.at; unrealized = u.unrealized; first = λ m t l. (earlier m l).derivable t })
@@ -116,7 +115,7 @@ module _ {K : Skeleton Term} where
 
 module _ (t : List ℕ) (b : ℕ) where
   pub passed_all : {s : ℕ} → Passed (meant (drawing t b)) s → byte t (b + strand_count) ≤ s
-      → FirstOpenIs (meant (drawing t b)) Open.Nothing
+      → FirstOpenIs (meant (drawing t b)) None
   unfolding Realized meant
   passed_all w l =
       none (λ n u a. let (e, c, q) = at_meant (term (rows_in t)) (skeleton_at t b) a in

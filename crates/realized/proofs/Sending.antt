@@ -1,4 +1,5 @@
 -- What is sent before a node, node by node. Assumes nothing.
+use Rattle.std.specs.Prelude.{Option, Some}
 use mathlib.Core.Path.{◌≡◌, refl, sym, ◌∙◌}
 use mathlib.Core.Bool.{true, false, true≢false, ◌||◌}
 use mathlib.Core.List.{List}
@@ -15,9 +16,9 @@ use Rattle.theory.specs.Skeletons.{at_one}
 use Rattle.tables.specs.Layout.{strand_count, heights}
 use Rattle.tables.specs.Tables.{byte, skeleton_at, Block}
 use Rattle.order.specs.Precedence.{code}
-use Rattle.origin.specs.declared.At as Answer
+use Rattle.tables.specs.declared.blocks.Event as Answer
 use Rattle.origin.specs.Marked.{node}
-use Rattle.origin.specs.Nodes.{EventIs, nothing, sends, receives}
+use Rattle.tables.specs.Nodes.{EventIs, nothing, sends, receives}
 use Rattle.tables.proofs.Nodes.{at_stands, position_low}
 use Rattle.realized.specs.Before.{IsSent}
 use Rattle.realized.specs.Passing.{Sends, Takes, Gathered}
@@ -26,11 +27,12 @@ use Rattle.terms.proofs.Listed.{with_iff}
 -- What the answer says of sends
 
 module _ {K : Skeleton ℕ} {n : Node} where
-  pub is_sent : {m : ℕ} → EventIs K n (Answer.At.Send (record { 0 = m })) → At K n (send m)
+  pub is_sent : {t : Term} → EventIs K n (Some (Answer.Event.Send t)) → At K n (send t.0)
   is_sent (sends a) = a
 
-  -- an answer that is not `Send` says that none is there
-  pub not_sent : (r : Answer.At) → ((t : Term) → r ≡ Answer.At.Send t → ⊥) → EventIs K n r → (m : ℕ) → ¬ At K n (send m)
+  -- an answer that is not a send says that none is there
+  pub not_sent : (r : Option Answer.Event) → ((t : Term) → r ≡ Some (Answer.Event.Send t) → ⊥) → EventIs K n r → (m : ℕ)
+      → ¬ At K n (send m)
   not_sent r k (nothing none) m a = none (send m) a
   not_sent r k (receives s) m a = let e = at_one K s a in let z : ◌≡◌ {A = ℕ} 0 1 = cc in omega arith
   not_sent r k (sends s) m a = k _ refl

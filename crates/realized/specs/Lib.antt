@@ -1,5 +1,6 @@
 -- What the contracts of `realized` cite.
 pub mod Before
 pub mod Ready
+pub mod Scene
 pub mod Passing
 pub mod Opening

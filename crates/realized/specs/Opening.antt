@@ -1,5 +1,5 @@
 -- Which receptions are open: node by node, strand by strand, and the first of all.
-use Rattle.std.specs.Prelude.{Bool, true, false, ℕ, ◌<◌}
+use Rattle.std.specs.Prelude.{Bool, true, false, ℕ, ◌<◌, Option, Some, None}
 use Rattle.terms.specs.declared.Node as Code
 use Rattle.model.specs.Term.{Term}
 use Rattle.model.specs.Skeleton.{recv, Node, Skeleton, At}
@@ -7,8 +7,6 @@ use Rattle.model.specs.Derive.{DerivableBefore, Realized}
 use Rattle.model.specs.Answers.{FirstOpen}
 use Rattle.model.specs.Says.{node_of}
 use Rattle.origin.specs.Marked.{node}
-use Rattle.realized.specs.declared.Open.{Open}
-use Rattle.realized.specs.declared.OnStrand.{OnStrand}
 
 module _ (K : Skeleton Term) where
   -- what is received at the node, if anything is, is derivable before it
@@ -26,11 +24,11 @@ module _ (K : Skeleton Term) where
     met : Met n → OpenIs n false
 
   -- the first open reception of strand s
-  pub data OpenOn (s : ℕ) : OnStrand → Type 0 where
-    nowhere : ((p : ℕ) → Met (node s p)) → OpenOn s OnStrand.Nowhere
-    here : {p : ℕ} → Unmet (node s p) → ((q : ℕ) → q < p → Met (node s q)) → OpenOn s (OnStrand.Here p)
+  pub data OpenOn (s : ℕ) : Option ℕ → Type 0 where
+    nowhere : ((p : ℕ) → Met (node s p)) → OpenOn s None
+    here : {p : ℕ} → Unmet (node s p) → ((q : ℕ) → q < p → Met (node s q)) → OpenOn s (Some p)
 
   -- "Realized: yes, or the first unrealized reception by strand, then position."
-  pub data FirstOpenIs : Open → Type 0 where
-    none : Realized K → FirstOpenIs Open.Nothing
-    first : {n : Code.Node} → FirstOpen K (node_of n) → FirstOpenIs (Open.At n)
+  pub data FirstOpenIs : Option Code.Node → Type 0 where
+    none : Realized K → FirstOpenIs None
+    first : {n : Code.Node} → FirstOpen K (node_of n) → FirstOpenIs (Some n)

@@ -1,6 +1,5 @@
--- What is known of a set while nodes are passed, or atoms.
+-- What is known of a set while nodes are passed.
 use Rattle.std.specs.Prelude.{◌≡◌, true, ◌↔◌, ◌⊎◌, ℕ, ◌+◌, ◌*◌, ◌<◌}
-use mathlib.Core.List.{List, Memᴰ}
 use Rattle.terms.specs.declared.TermSet.{TermSet}
 use Rattle.terms.specs.Set.{mem}
 use Rattle.model.specs.Skeleton.{send, Node, Skeleton, At}
@@ -20,7 +19,3 @@ pub record Takes (K : Skeleton ℕ) (n m : Node) (set r : TermSet) : Type 0 wher
 pub record Gathered (K : Skeleton ℕ) (n : Node) (s p : ℕ) (set : TermSet) : Type 0 where
   pub has : (m : Node) (i : ℕ) → code m < 16 * s + p → Sends K n m i → mem set i ≡ true
   pub only : (i : ℕ) → mem set i ≡ true → (m : Node) × Sends K n m i
-
--- r is the set with the members of the list
-pub record Joined (l : List ℕ) (set r : TermSet) : Type 0 where
-  pub at : (i : ℕ) → (mem r i ≡ true) ↔ ((mem set i ≡ true) ⊎ Memᴰ i l)

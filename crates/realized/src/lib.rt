@@ -1,64 +1,44 @@
 // What the stranger reaches before a reception, and the first reception that is open.
+//
+// `with_send`, `with_strand` and `sent_before` ask for the skeleton and its matrix alone, and so for less than a `Scene` does. That
+// the matrix shows its precedence is asked of each call, as in rules. `Low` is asked so too, since a `Node` is any two bytes.
 #![tactic(auto)]
 
-ghost use Rattle.std.specs.Prelude.{◌≡◌, ℕ, ◌+◌, ◌<◌, ◌≤◌, length};
+ghost use Rattle.std.specs.Prelude.{◌≡◌, ℕ, ◌+◌, ◌<◌};
 ghost use Rattle.model.specs.Sheet.{meant};
 ghost use Rattle.model.specs.Answers.{ReachIs};
 ghost use Rattle.model.specs.Says.{node_of};
-ghost use Rattle.tables.specs.Layout.{strand_count, heights};
-ghost use Rattle.tables.specs.Tables.{byte, atoms_at, skeleton_at};
-ghost use Rattle.order.specs.Precedence.{Low};
+ghost use Rattle.tables.specs.Layout.{strand_count};
+ghost use Rattle.tables.specs.Tables.{byte, skeleton_at};
+ghost use Rattle.order.specs.Precedence.{Low, Shows};
 ghost use Rattle.realized.specs.Before.{IsSent, IsWithheld, IsReached};
-ghost use Rattle.tables.specs.Drawn.{drawing, Drawn};
-ghost use Rattle.realized.specs.Ready.{Ordering, Ready};
-ghost use Rattle.realized.specs.Passing.{Takes, Gathered, Joined};
+ghost use Rattle.realized.specs.Scene.{scene, IsReady};
+ghost use Rattle.realized.specs.Passing.{Takes, Gathered};
 ghost use Rattle.realized.specs.Opening.{OpenIs, OpenOn, FirstOpenIs};
 
-use order::is_before;
-use origin::{At, event_is};
+use keys::Inverses;
+use order::Precedence;
 use stranger::reach;
-use tables::{HEIGHTS, NON_COUNT, NONS, STRAND_COUNT, UNIQ_COUNT, UNIQS, wide};
+use tables::blocks::{Assumed, Event};
+use tables::drawing::Drawing;
 use terms::{Node, Strand, Term, TermSet};
-
-// The first open reception of a skeleton.
-#[derive(Clone, Copy)]
-pub enum Open {
-    Nothing,
-    At(Node),
-}
-
-// The position of the first open reception of a strand.
-#[derive(Clone, Copy)]
-enum OnStrand {
-    Nowhere,
-    Here(u8),
-}
-
-// How many events a strand has.
-fn height(table: &[u8], block: usize, strand: Strand) -> u8
-    requires { Drawn table.now block × (strand.0 < byte table.now (block + strand_count)) }
-    ensures { (result ≡ byte table.now (block + heights + strand.0)) × (result ≤ 16) }
-{
-    table[block + HEIGHTS + wide(strand.0)]
-}
 
 // The set, with the message of `sender` too if that is a send before the node.
 fn with_send(
-    table: &[u8],
-    block: usize,
-    before: &[u64],
+    skeleton: Drawing,
+    before: &Precedence,
     set: TermSet,
     sender: Node,
     node: Node,
 ) -> TermSet
-    requires drawn { Drawn table.now block × Ordering table.now block before.now }
+    requires shows { Shows (skeleton_at skeleton.table.now skeleton.block) before.now.words }
     requires low { Low (node_of sender) × Low (node_of node) }
-    ensures { Takes (skeleton_at table.now block) (node_of node) (node_of sender) set result }
+    ensures { Takes (skeleton_at skeleton.entry.table.now skeleton.entry.block) (node_of node) (node_of sender) set result }
 {
-    let At::Send(said) = event_is(table, block, sender) else {
+    let Some(Event::Send(said)) = skeleton.event_at(sender) else {
         return set;
     };
-    if is_before(before, sender, node) {
+    if before.is_before(sender, node) {
         return set.with(said);
     }
     set
@@ -66,171 +46,125 @@ fn with_send(
 
 // The same for all nodes of a strand.
 fn with_strand(
-    table: &[u8],
-    block: usize,
-    before: &[u64],
+    skeleton: Drawing,
+    before: &Precedence,
     set: TermSet,
     strand: Strand,
     node: Node,
 ) -> TermSet
-    requires drawn { Drawn table.now block × Ordering table.now block before.now }
-    requires strand_bound { (strand.0 < byte table.now (block + strand_count)) × Low (node_of node) }
-    requires gathered { Gathered (skeleton_at table.now block) (node_of node) strand.0 0 set }
-    ensures { Gathered (skeleton_at table.now block) (node_of node) (strand.0 + 1) 0 result }
+    requires shows { Shows (skeleton_at skeleton.table.now skeleton.block) before.now.words }
+    requires strand_bound { (strand.0 < byte skeleton.table.now (skeleton.block + strand_count)) × Low (node_of node) }
+    requires gathered { Gathered (skeleton_at skeleton.table.now skeleton.block) (node_of node) strand.0 0 set }
+    ensures { Gathered (skeleton_at skeleton.entry.table.now skeleton.entry.block) (node_of node) (strand.0 + 1) 0 result }
 {
     let mut all = set;
-    let h = height(table, block, strand);
-    for p in 0..h {
-        let sender = Node {
-            strand,
-            position: p,
-        };
-        all = with_send(table, block, before, all, sender, node);
+    for position in 0..skeleton.height(strand) {
+        let sender = Node { strand, position };
+        all = with_send(skeleton, before, all, sender, node);
     }
     all
 }
 
-// The messages of all sends that come before the node.
-pub fn sent_before(table: &[u8], block: usize, before: &[u64], node: Node) -> TermSet
-    requires { Drawn table.now block × Ordering table.now block before.now × Low (node_of node) }
-    ensures { IsSent (skeleton_at table.now block) (node_of node) result }
+// The messages of all sends that come before the node. The walk is that of `origin::messages`; with a closure for the test of an event
+// its contract would say of every walk what these say of two, and be no plainer.
+pub fn sent_before(skeleton: Drawing, before: &Precedence, node: Node) -> TermSet
+    requires { Shows (skeleton_at skeleton.table.now skeleton.block) before.now.words × Low (node_of node) }
+    ensures { IsSent (skeleton_at skeleton.entry.table.now skeleton.entry.block) (node_of node) result }
 {
     let mut all = TermSet::EMPTY;
-    let count = table[block + STRAND_COUNT];
-    for s in 0..count {
-        all = with_strand(table, block, before, all, Strand(s), node);
-    }
-    all
-}
-
-// The set, with the atoms of the `count` bytes from `from` on too.
-fn with_atoms(table: &[u8], set: TermSet, from: usize, count: usize) -> TermSet
-    requires { from + count ≤ length table.now }
-    ensures { Joined (atoms_at count table.now from) set result }
-{
-    let mut all = set;
-    for i in 0..count {
-        all = all.with(Term(table[from + i]));
+    for s in 0..skeleton.strand_count() {
+        all = with_strand(skeleton, before, all, Strand(s), node);
     }
     all
 }
 
 // The NO and the UO atoms. In an accepted skeleton each UO atom originates, so all of them are withheld.
-pub fn withheld(table: &[u8], block: usize) -> TermSet
-    requires { Drawn table.now block }
-    ensures { IsWithheld (skeleton_at table.now block) result }
+pub fn withheld(skeleton: Drawing) -> TermSet
+    ensures { IsWithheld (skeleton_at skeleton.entry.table.now skeleton.entry.block) result }
 {
-    let nons = wide(table[block + NON_COUNT]);
-    let uniqs = wide(table[block + UNIQ_COUNT]);
-    let never = with_atoms(table, TermSet::EMPTY, block + NONS, nons);
-    with_atoms(table, never, block + UNIQS, uniqs)
+    skeleton
+        .atoms(Assumed::Non)
+        .union(skeleton.atoms(Assumed::Uniq))
 }
 
-// What the stranger reaches before the node, where `held` is what is withheld.
-fn reached(
-    table: &[u8],
-    block: usize,
-    inverses: &[u8],
-    before: &[u64],
-    held: TermSet,
-    node: Node,
-) -> TermSet
-    requires ready { Ready table.now block inverses.now before.now × Low (node_of node) }
-    requires withheld { IsWithheld (skeleton_at table.now block) held }
-    ensures { IsReached (drawing table.now block) (node_of node) result }
-{
-    let sent = sent_before(table, block, before, node);
-    reach(table, inverses, sent, held)
+// A skeleton, with what the stranger's reach in it is computed from. That the three belong together is asked of each call: such a
+// fact may have several proofs, a type keeps only that there is one, and each proof here would have to take it out again. What is
+// withheld is no field: whoever makes a `Scene` would have to compute it.
+#[derive(Clone, Copy)]
+pub struct Scene<'a> {
+    pub skeleton: Drawing<'a>,
+    pub inverses: &'a Inverses,
+    pub before: &'a Precedence,
 }
 
-// The terms of the table that are derivable before the node.
-pub fn reached_before(
-    table: &[u8],
-    block: usize,
-    inverses: &[u8],
-    before: &[u64],
-    node: Node,
-) -> TermSet
-    requires { Ready table.now block inverses.now before.now × Low (node_of node) }
-    ensures { IsReached (drawing table.now block) (node_of node) result }
-{
-    reached(table, block, inverses, before, withheld(table, block), node)
-}
+impl Scene<'_> {
+    // What the stranger reaches before the node, where `held` is what is withheld.
+    fn reached(self, held: TermSet, node: Node) -> TermSet
+        requires ready { IsReady self × Low (node_of node) }
+        requires withheld { IsWithheld (scene self).skeleton held }
+        ensures { IsReached (scene self.entry) (node_of node) result }
+    {
+        let sent = sent_before(self.skeleton, self.before, node);
+        reach(self.skeleton.table, self.inverses, sent, held)
+    }
 
-// How many they are.
-pub fn count_reached(
-    table: &[u8],
-    block: usize,
-    inverses: &[u8],
-    before: &[u64],
-    node: Node,
-) -> usize
-    requires { Ready table.now block inverses.now before.now × Low (node_of node) }
-    ensures { (k : ℕ) → ReachIs k (node_of node) (drawing table.now block) result }
-{
-    reached_before(table, block, inverses, before, node).count()
-}
+    // The terms of the table that are derivable before the node.
+    pub fn reached_before(self, node: Node) -> TermSet
+        requires { IsReady self × Low (node_of node) }
+        ensures { IsReached (scene self.entry) (node_of node) result }
+    {
+        self.reached(withheld(self.skeleton), node)
+    }
 
-// Whether a message is received at the node that is not reached before it.
-fn is_open(
-    table: &[u8],
-    block: usize,
-    inverses: &[u8],
-    before: &[u64],
-    held: TermSet,
-    node: Node,
-) -> bool
-    requires ready { Ready table.now block inverses.now before.now × Low (node_of node) }
-    requires withheld { IsWithheld (skeleton_at table.now block) held }
-    ensures { OpenIs (meant (drawing table.now block)) (node_of node) result }
-{
-    let At::Reception(heard) = event_is(table, block, node) else {
-        return false;
-    };
-    !reached(table, block, inverses, before, held, node).has(heard)
-}
+    // How many they are.
+    pub fn count_reached(self, node: Node) -> usize
+        requires { IsReady self × Low (node_of node) }
+        ensures { (k : ℕ) → ReachIs k (node_of node) (scene self.entry) result }
+    {
+        self.reached_before(node).count()
+    }
 
-// The first open reception of the strand.
-fn open_on(
-    table: &[u8],
-    block: usize,
-    inverses: &[u8],
-    before: &[u64],
-    held: TermSet,
-    strand: Strand,
-) -> OnStrand
-    requires ready { Ready table.now block inverses.now before.now × IsWithheld (skeleton_at table.now block) held }
-    requires strand_bound { strand.0 < byte table.now (block + strand_count) }
-    ensures { OpenOn (meant (drawing table.now block)) strand.0 result }
-{
-    let h = height(table, block, strand);
-    for p in 0..h {
-        let node = Node {
-            strand,
-            position: p,
+    // Whether a message is received at the node that is not reached before it.
+    fn is_open(self, held: TermSet, node: Node) -> bool
+        requires ready { IsReady self × Low (node_of node) }
+        requires withheld { IsWithheld (scene self).skeleton held }
+        ensures { OpenIs (meant (scene self.entry)) (node_of node) result }
+    {
+        let Some(Event::Reception(heard)) = self.skeleton.event_at(node) else {
+            return false;
         };
-        if is_open(table, block, inverses, before, held, node) {
-            return OnStrand::Here(p);
-        }
+        !self.reached(held, node).has(heard)
     }
-    OnStrand::Nowhere
-}
 
-// The first open reception, by strand, then position.
-pub fn first_open(table: &[u8], block: usize, inverses: &[u8], before: &[u64]) -> Open
-    requires { Ready table.now block inverses.now before.now }
-    ensures { FirstOpenIs (meant (drawing table.now block)) result }
-{
-    let held = withheld(table, block);
-    let count = table[block + STRAND_COUNT];
-    for s in 0..count {
-        if let OnStrand::Here(p) = open_on(table, block, inverses, before, held, Strand(s)) {
-            let node = Node {
-                strand: Strand(s),
-                position: p,
-            };
-            return Open::At(node);
+    // The position of the first open reception of the strand. A loop, and not `find`: the chain's proof of what each call of
+    // `is_open` asks did not close.
+    fn open_on(self, held: TermSet, strand: Strand) -> Option<u8>
+        requires ready { IsReady self × IsWithheld (scene self).skeleton held }
+        requires strand_bound { strand.0 < byte self.skeleton.table.now (self.skeleton.block + strand_count) }
+        ensures { OpenOn (meant (scene self.entry)) strand.0 result }
+    {
+        for position in 0..self.skeleton.height(strand) {
+            let node = Node { strand, position };
+            if self.is_open(held, node) {
+                return Some(position);
+            }
         }
+        None
     }
-    Open::Nothing
+
+    // The first open reception, by strand, then position.
+    pub fn first_open(self) -> Option<Node>
+        requires { IsReady self }
+        ensures { FirstOpenIs (meant (scene self.entry)) result }
+    {
+        let held = withheld(self.skeleton);
+        for s in 0..self.skeleton.strand_count() {
+            let strand = Strand(s);
+            if let Some(position) = self.open_on(held, strand) {
+                let node = Node { strand, position };
+                return Some(node);
+            }
+        }
+        None
+    }
 }

@@ -1,7 +1,7 @@
 -- What the sets and matrices say of a skeleton's rules, and laws that several functions' proofs cite.
 pub mod Transfer
-mod Listed
 mod NonRules
+mod Asked
 mod Arriving
 mod UniqRules
 mod Faults

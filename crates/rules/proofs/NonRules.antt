@@ -8,18 +8,20 @@ use native.Mathlib.Omega.{arith}
 use lib.Dec.{eqb}
 use lib.ListN.{length}
 use borrow.Author.Tests.{not-true, ne_eqb}
+use Rattle.std.specs.Prelude.{Ok, Err}
 use Rattle.terms.specs.declared.TermSet.{TermSet}
+use Rattle.model.specs.declared.Reason.{Reason}
 use Rattle.terms.specs.Set.{mem}
 use Rattle.model.specs.Table.{term}
 use Rattle.model.specs.Sheet.{meant}
-use Rattle.model.specs.Accepting.{Carried}
+use Rattle.model.specs.Accepting.{Carried, Missing}
 use Rattle.theory.specs.Tests.{bool_false, both_true}
 use Rattle.theory.specs.Deciding.{Below, dec_below}
 use Rattle.tables.specs.Tables.{byte, rows_in, skeleton_at}
 use Rattle.carry.specs.Sets.{EndsBy, IsParts}
 use Rattle.carry.proofs.Rows.{inside_in}
 use Rattle.tables.specs.Drawn.{drawing, Drawn}
-use Rattle.rules.specs.Judged.{Heard, MissingAs, NonAs, NonDue}
+use Rattle.rules.specs.Judged.{Heard, NonAs}
 use Rattle.rules.proofs.Transfer.{carried_iff, lost_iff}
 
 true_test : (b : Bool) → Dec (b ≡ true)
@@ -49,9 +51,9 @@ module _ (s : TermSet) (e : Bool) (n : ℕ) (low : (k : ℕ) → mem s k ≡ tru
 pub one_ends : (n a : ℕ) (one : TermSet) → ((k : ℕ) → mem one k ≡ eqb k a) → EndsBy n (a + 1) one
 one_ends n a one alone = record { none = λ k l h. alone k ∙ ne_eqb k a (λ e. omega arith) }
 
-module _ (t : List ℕ) (a : ℕ) where
+module _ {t : List ℕ} {b : ℕ} {C H X : TermSet} (ready : Drawn t b) (heard : Heard t b C H X) (a : ℕ) (inside : a < byte t 600) where
   -- F is what of the parts of the atom is a variable and not in H, and e says whether it is empty
-  module _ (inside : a < byte t 600) (one P X H D F : TermSet) (e : Bool) (alone : (k : ℕ) → mem one k ≡ eqb k a)
+  module _ (one P D F : TermSet) (e : Bool) (alone : (k : ℕ) → mem one k ≡ eqb k a)
       (parts : IsParts (rows_in t) one P)
       (common : (k : ℕ) → mem D k ≡ (mem P k && mem X k)) (minus : (k : ℕ) → mem F k ≡ (mem D k && not (mem H k)))
       (empty : (e ≡ true) ↔ ((k : ℕ) → mem F k ≡ false)) where
@@ -67,45 +69,36 @@ module _ (t : List ℕ) (a : ℕ) where
     left_over : (k : ℕ) → mem P k ≡ true → mem X k ≡ true → mem H k ≡ false → mem F k ≡ true
     left_over k p x h = minus k ∙ rw (common k, p, x, h)
 
-    pub missing_as : MissingAs t H X a (not e)
+    pub missing_iff : (not e ≡ true) ↔ Missing (meant (drawing t b)) (term (rows_in t) a)
     unfolding meant
-    missing_as =
-        record {
-          at = λ b C ready heard.
-              let same = lost_iff (rows_in t) ready.good (skeleton_at t b) ready.on_table heard.said heard.messages a
-              (inside_in t inside) one P X H alone parts heard.variables heard.heard in (
-                λ h. let w = has_some F e (length (rows_in t)) in_terms empty h in
-                    let k = w.which in
-                    let m = w.holds in
-                    let unheard : mem H k ≡ false = not-true (mem H k) (in_common k m).1 in
-                    same.0 (record { which = k; part = (in_parts k m).0; variable = (in_parts k m).1; unheard = unheard }),
-                λ m. let l = same.1 m in
-                    some_has F e (length (rows_in t)) in_terms empty l.which
-                    (left_over l.which l.part l.variable l.unheard),
-              );
-        }
+    missing_iff =
+        let same = lost_iff (rows_in t) ready.good (skeleton_at t b) ready.on_table heard.said heard.messages a
+        (inside_in t inside) one P X H alone parts heard.variables heard.heard in (
+          λ h. let w = has_some F e (length (rows_in t)) in_terms empty h in
+              let k = w.which in
+              let m = w.holds in
+              let unheard : mem H k ≡ false = not-true (mem H k) (in_common k m).1 in
+              same.0 (record { which = k; part = (in_parts k m).0; variable = (in_parts k m).1; unheard = unheard }),
+          λ m. let l = same.1 m in
+              some_has F e (length (rows_in t)) in_terms empty l.which
+              (left_over l.which l.part l.variable l.unheard),
+        )
 
--- The refusal that the atom is due
+  -- The refusal that the atom is due
 
-module _ {t : List ℕ} {C H X : TermSet} {a : ℕ} (inside : a < byte t 600) where
-  is_carried : (b : ℕ) → Drawn t b → Heard t b C H X
-      → (mem C a ≡ true) ↔ Carried (meant (drawing t b)) (term (rows_in t) a)
+  is_carried : (mem C a ≡ true) ↔ Carried (meant (drawing t b)) (term (rows_in t) a)
   unfolding meant
-  is_carried b ready heard =
+  is_carried =
       carried_iff (rows_in t) ready.good (skeleton_at t b) ready.on_table a (inside_in t inside) C heard.said
       heard.carried heard.messages
 
-  pub non_missing : {r : Bool} → MissingAs t H X a r → r ≡ true → NonDue t C H X a 14
-  non_missing m h = record { at = λ b ready heard. NonAs.missing ((m.at b C ready heard).0 h) }
+  pub non_carried : mem C a ≡ true → NonAs (drawing t b) a (Err Reason.NonCarried)
+  non_carried h = NonAs.carried (is_carried.0 h)
 
-  pub non_carried : mem C a ≡ true → NonDue t C H X a 11
-  non_carried h = record { at = λ b ready heard. NonAs.carried ((is_carried b ready heard).0 h) }
-
-  pub non_fine : {q : Bool} → MissingAs t H X a q → q ≡ false → mem C a ≡ false → NonDue t C H X a 0
-  non_fine m present uncarried =
-      record {
-        at = λ b ready heard. NonAs.fine (record {
-          present = λ w. true≢false (sym ((m.at b C ready heard).1 w) ∙ present);
-          uncarried = λ w. true≢false (sym ((is_carried b ready heard).1 w) ∙ uncarried);
-        });
-      }
+  pub non_fine : {q : Bool} → (q ≡ true) ↔ Missing (meant (drawing t b)) (term (rows_in t) a) → q ≡ false → mem C a ≡ false
+      → NonAs (drawing t b) a (Ok tt)
+  non_fine missing present uncarried =
+      NonAs.fine (record {
+        present = λ w. true≢false (sym (missing.1 w) ∙ present);
+        uncarried = λ w. true≢false (sym (is_carried.1 w) ∙ uncarried);
+      })

@@ -5,7 +5,9 @@ use mathlib.Core.Bool.{Bool, true, false, true≢false}
 use mathlib.Core.List.{List}
 use mathlib.Core.Logic.Iff
 use mathlib.Core.Logic.{◌↔◌}
-use Prim.Native.Nat.{ℕ, ◌+◌}
+use Prim.Native.Nat.{ℕ, ◌+◌, ◌<◌}
+use Rattle.std.specs.Prelude.{Ok, Err}
+use Rattle.model.specs.declared.Reason.{Reason}
 use Rattle.terms.specs.declared.TermSet.{TermSet}
 use Rattle.terms.specs.declared.Node as Code
 use Rattle.terms.specs.Set.{mem}
@@ -26,7 +28,7 @@ use Rattle.origin.specs.Marked.{FirstSent, OriginatesAs}
 use Rattle.tables.proofs.Nodes.{at_stands, strand_low, position_low}
 use Rattle.order.specs.Precedence.{on, code, Low, Shows}
 use Rattle.tables.specs.Drawn.{drawing, Drawn}
-use Rattle.rules.specs.Judged.{UniqAs, ArrivesAs}
+use Rattle.rules.specs.Judged.{UniqAs, ArriveAs}
 use Rattle.rules.proofs.Transfer.{origin_iff}
 
 -- the skeleton of the block at b, with terms in place of their numbers
@@ -52,7 +54,7 @@ module _ {t : List ℕ} {b : ℕ} (ready : Drawn t b) where
 
     -- an answer that is not `At` says that there is not one strand
     pub not_one_strand : (r : Origins) → ((n : Code.Node) → r ≡ Origins.At n → ⊥) → OriginatesAs (skeleton_at t b) (mem C) r
-        → UniqAs (drawing t b) a 12
+        → UniqAs (drawing t b) a (Err Reason.NoSingleOrigin)
     unfolding meant
     not_one_strand r k (OriginatesAs.nowhere none) = UniqAs.not_one (λ o. none _ ((same _).1 o.originates.origin))
     not_one_strand r k (OriginatesAs.at f only) = absurd (k _ refl)
@@ -81,11 +83,11 @@ module _ {t : List ℕ} {b : ℕ} (ready : Drawn t b) where
             Iff.trans (shows.at (node_of n) m (low_origin o) l)
             (before_means (term (rows_in t)) (skeleton_at t b), before_meant (term (rows_in t)) (skeleton_at t b))
 
-        pub too_early : {s : ℕ} {r : Bool} → ArrivesAs (skeleton_at t b) (mem C) g (node_of n) s r → r ≡ false
-            → UniqAs (drawing t b) a 13
+        pub too_early : {P : Node → Type 0} {r : Bool} → ArriveAs (skeleton_at t b) (mem C) g (node_of n) P r → r ≡ false
+            → UniqAs (drawing t b) a (Err Reason.HeardBeforeOrigin)
         unfolding meant on_message
-        too_early (ArrivesAs.all f) e = absurd (true≢false e)
-        too_early (ArrivesAs.one_early {m} {u} d marked off) e =
+        too_early (ArriveAs.all f) e = absurd (true≢false e)
+        too_early (ArriveAs.one_early {m} {u} d marked off) e =
             UniqAs.early (one_strand o) (record {
               source = node_of n;
               origin = (same (node_of n)).0 (first o);
@@ -96,11 +98,11 @@ module _ {t : List ℕ} {b : ℕ} (ready : Drawn t b) where
               not_after = λ p. true≢false (sym ((comes_before (low_at d)).1 p) ∙ off);
             })
 
-        in_time : {r : Bool} → ArrivesAs (skeleton_at t b) (mem C) g (node_of n) (byte t (b + strand_count)) r → r ≡ true
+        in_time : {r : Bool} → ArriveAs (skeleton_at t b) (mem C) g (node_of n) (λ m. m.strand < byte t (b + strand_count)) r → r ≡ true
             → ¬ Early (meant_at t b) (term (rows_in t) a)
         unfolding message
-        in_time (ArrivesAs.one_early d marked off) e w = true≢false (sym e)
-        in_time (ArrivesAs.all f) e w =
+        in_time (ArriveAs.one_early d marked off) e w = true≢false (sym e)
+        in_time (ArriveAs.all f) e w =
             let (d, x, z) = at_meant (term (rows_in t)) (skeleton_at t b) w.at in
             let (u, y, v) = recv_means (term (rows_in t)) d z in
             let at : At (skeleton_at t b) w.node (recv u) = rw y at x in
@@ -108,7 +110,7 @@ module _ {t : List ℕ} {b : ℕ} (ready : Drawn t b) where
             let source : w.source ≡ node_of n = alone o w.source ((same w.source).1 w.origin) in
             w.not_after (rw source ((comes_before (low_at at)).0 (f w.node u (at_stands t b at).there.strand at marked)))
 
-        pub on_time : {r : Bool} → ArrivesAs (skeleton_at t b) (mem C) g (node_of n) (byte t (b + strand_count)) r
-            → r ≡ true → UniqAs (drawing t b) a 0
+        pub on_time : {r : Bool} → ArriveAs (skeleton_at t b) (mem C) g (node_of n) (λ m. m.strand < byte t (b + strand_count)) r
+            → r ≡ true → UniqAs (drawing t b) a (Ok tt)
         unfolding meant
         on_time w e = UniqAs.fine (record { one_strand = one_strand o; in_time = in_time w e })

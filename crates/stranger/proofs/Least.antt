@@ -27,5 +27,6 @@ module _ {P : Rule → Type 0} {r t : TermSet} (step : Step P r.words t.words) w
     settled same k h =
         count_same (mem r) (mem t) step.grown.grows 256 (omega (arith, sizeᵗ.exact, sizeʳ.exact)) k (sizeᵗ.small k h) h
 
-    pub closure : {s : TermSet} → Grown P s.words r.words → n ≡ m → Closure P s.words r.words
-    closure g same = record { grown = g; closed = λ q h ready. settled same q.gives (step.closes q h ready) }
+    pub closure : {s : TermSet} → Grown P s.words r.words → n ≡ m → Closure P s.words t.words
+    closure g same =
+        record { grown = grown_more g; closed = λ q h ready. step.closes q h (λ i k. settled same i (ready i k)) }

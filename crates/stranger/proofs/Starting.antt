@@ -1,37 +1,41 @@
--- The start set, term by term.
-use mathlib.Core.Path.{◌≡◌, refl, sym, ap, ◌∙◌}
-use mathlib.Core.Bool.{Bool, true, false, ◌||◌, ◌&&◌, or-false, and-true, and-false}
-use mathlib.Core.List.{List, [], ◌∷◌}
-use Prim.Native.Nat.{ℕ, ◌+◌}
+-- The start set, from what passes, and what passes by a term's kind.
+use mathlib.Core.Path.{◌≡◌, refl}
+use mathlib.Core.Bool.{Bool, ◌||◌, ◌&&◌, not}
+use mathlib.Core.List.{List}
+use Prim.Native.Nat.{ℕ, ◌<◌}
 use native.Mathlib.Omega.{arith}
-use lib.Dec.{eqb, ltb}
-use borrow.Author.Tests.{eqb-true, eqb-false, lt-ltb, le-ltb, ltb-true, ltb-false}
+use native.Mathlib.Decide.{dec_lt}
+use lib.Dec.{eqb, leb, ltb}
+use borrow.Author.Tests.{lt-ltb, le-ltb}
 use Rattle.terms.specs.declared.TermSet.{TermSet}
-use Rattle.terms.proofs.Words.{member_none}
-use Rattle.stranger.specs.Moves.{starts, Starts}
-use Rattle.terms.specs.Set.{Added}
+use Rattle.terms.specs.Set.{mem, HasThose}
+use Rattle.tables.specs.declared.kinds.Kind.{Kind}
+use Rattle.tables.specs.Kinds.{code}
+use Rattle.stranger.specs.Moves.{free, starts, Starts}
 
-other_next : (k i : ℕ) → ¬ (k ≡ i) → ltb k i ≡ ltb k (i + 1)
-other_next k i n = go (ltb k i) refl
+pub starts_those : (t : List ℕ) (sent withheld : TermSet) {n : ℕ} {Answers : ℕ → Bool → Type 0} {s : TermSet}
+    → ((k : ℕ) → k < n → (b : Bool) → Answers k b → b ≡ starts t sent withheld k)
+    → HasThose n Answers s
+    → Starts t sent withheld n s.words
+starts_those t sent withheld {n} {Answers} {s} test those = record { at = λ k. go k (dec_lt k n) }
   where
-    go : (b : Bool) → ltb k i ≡ b → b ≡ ltb k (i + 1)
-    go true e = sym (lt-ltb k (i + 1) (omega (arith, ltb-true k i e)))
-    go false e = sym (le-ltb k (i + 1) (omega (arith, ltb-false k i e)))
+    go : (k : ℕ) → Dec (k < n) → mem s k ≡ (ltb k n && starts t sent withheld k)
+    go k (yes l) = rw (lt-ltb k n l) (test k l (mem s k) (those.at k l))
+    go k (no f) = rw (le-ltb k n (omega arith)) (those.past k (omega arith))
 
-module _ (t : List ℕ) (sent withheld : TermSet) where
-  pub starts_none : {s : List ℕ} → s ≡ 0 ∷ 0 ∷ 0 ∷ 0 ∷ [] → Starts t sent withheld 0 s
-  starts_none z = record { at = λ i. rw (z, member_none i, le-ltb i 0 (omega arith)) }
-
-  pub starts_more : {i : ℕ} {s r : List ℕ} {so : Bool} → so ≡ starts t sent withheld i
-      → Added i so s r
-      → Starts t sent withheld i s
-      → Starts t sent withheld (i + 1) r
-  starts_more {i} {s} {r} {so} test added h =
-      record { at = λ k. added.at k ∙ (ap (λ b. b || so && eqb k i) (h.at k) ∙ go k (eqb k i) refl) }
-    where
-      go : (k : ℕ) (b : Bool) → eqb k i ≡ b
-          → ((ltb k i && starts t sent withheld k) || so && b) ≡ (ltb k (i + 1) && starts t sent withheld k)
-      go k true e =
-          let z : k ≡ i = eqb-true k i e in
-          rw (lt-ltb k (i + 1) (omega arith), le-ltb k i (omega arith), and-true so, z) test
-      go k false e = rw (and-false so, ← other_next k i (eqb-false k i e)) (or-false _)
+-- tags and message variables are free, and atoms that are not withheld
+pub free_by : (k : Kind) (w : Bool)
+    → ((eqb (code k) 0 || eqb (code k) 1) || (leb 2 (code k) && leb (code k) 9) && not w) ≡ free (code k) w
+free_by Kind.Tag w = refl
+free_by Kind.Mesg w = refl
+free_by Kind.Text w = refl
+free_by Kind.Data w = refl
+free_by Kind.Name w = refl
+free_by Kind.Skey w = refl
+free_by Kind.Akey w = refl
+free_by Kind.Public w = refl
+free_by Kind.Inverse w = refl
+free_by Kind.LongTerm w = refl
+free_by Kind.Pair w = refl
+free_by Kind.Encryption w = refl
+free_by Kind.Hash w = refl

@@ -1,18 +1,20 @@
 -- How steps add up: a step after a step is a step.
 use mathlib.Core.Path.{◌≡◌, refl, sym, ◌∙◌}
-use mathlib.Core.Bool.{Bool, true, false, ◌||◌, ◌&&◌, or-true}
+use mathlib.Core.Bool.{Bool, true, false, ◌||◌, or-true}
 use mathlib.Core.List.Memᴰ
-use mathlib.Core.List.{List, [], ◌∷◌, ◌++◌, Memᴰ}
-use mathlib.Core.Logic.{◌⊎◌, inl, inr, ⊎_elim, ⊎_map}
+use mathlib.Core.List.{List, [], ◌∷◌, ◌++◌, map, Memᴰ}
+use mathlib.Core.Logic.{◌↔◌, ◌⊎◌, inl, inr, ⊎_elim, ⊎_map}
 use Prim.Native.Nat.{ℕ, ◌+◌, ◌≤◌, ◌<◌}
 use native.Mathlib.Omega.{arith}
 use lib.Dec.{eqb}
 use borrow.Author.Tests.{eq-eqb, eqb-true, eqb-false}
+use Rattle.std.specs.List.{list_all}
+use Rattle.terms.specs.declared.Term.{Term}
 use Rattle.terms.specs.Set.{member, Added}
-use Rattle.theory.specs.Each.{each_nil, each_cons}
-use Rattle.theory.specs.Rules.{Rule, ◌⊢◌, Reached, by}
+use Rattle.theory.specs.Each.{each_cons}
+use Rattle.theory.specs.Rules.{Rule, Reached, by}
 use Rattle.theory.specs.Tests.{both_true}
-use Rattle.stranger.specs.Steps.{Has, Ready, Grown, Step, Listed, Between}
+use Rattle.stranger.specs.Steps.{number, Has, Ready, Grown, Step, Listed, Between}
 
 pub grown_none : (P : Rule → Type 0) (s : List ℕ) → Grown P s s
 grown_none P s = record { grows = λ k h. h; only = λ all sub start. start }
@@ -56,7 +58,7 @@ or_cases false b e = inr e
 
 -- a rule is followed, if it applies
 module _ (q : Rule) {s r : List ℕ} {so : Bool} (added : Added q.gives so s r) where
-  put : (so ≡ true → Ready s q) → (Ready s q → so ≡ true) → Step (Listed (q ∷ [])) s r
+  pub put : (so ≡ true → Ready s q) → (Ready s q → so ≡ true) → Step (Listed (q ∷ [])) s r
   put applies is_so =
       record {
         grown = record {
@@ -76,20 +78,14 @@ module _ (q : Rule) {s r : List ℕ} {so : Bool} (added : Added q.gives so s r) 
           rw (eqb-true k q.gives e.1)
           (by (sub q (record { in_list = Memᴰ.head refl })) (λ i m. start i (applies e.0 i m)))
 
--- a rule of one need, and one of two
-module _ {s r : List ℕ} {x z : ℕ} where
-  pub follow_one : {a : Bool} → a ≡ member s x → Added z a s r → Step (Listed (◌⊢◌ (x ∷ []) z ∷ [])) s r
-  follow_one first added =
-      put (◌⊢◌ (x ∷ []) z) added (λ e. each_cons (Has s) (sym first ∙ e) (each_nil (Has s)))
-      (λ ready. first ∙ ready x (Memᴰ.head refl))
-
-  pub follow_two : {y : ℕ} {a b : Bool} → a ≡ member s x → b ≡ member s y → Added z (a && b) s r
-      → Step (Listed (◌⊢◌ (x ∷ y ∷ []) z ∷ [])) s r
-  follow_two {y} {a} {b} first second added =
-      put (◌⊢◌ (x ∷ y ∷ []) z) added
-      (λ e. let (p, q) = both_true a b e in
-      each_cons (Has s) (sym first ∙ p) (each_cons (Has s) (sym second ∙ q) (each_nil (Has s))))
-      (λ ready. rw (first, second, ready x (Memᴰ.head refl), ready y (Memᴰ.tail (Memᴰ.head refl))))
+-- what a rule needs, as terms: they are all there, or not
+pub all_ready : (s : List ℕ) (needs : List Term)
+    → (list_all (λ x. member s (number x)) needs ≡ true) ↔ ((i : ℕ) → Memᴰ i (map number needs) → Has s i)
+all_ready s [] = (λ e i m. absurd (Memᴰ.not-nil m), λ f. refl)
+all_ready s (x ∷ xs) = (
+  λ e. let (here, rest) = both_true (member s (number x)) _ e in each_cons (Has s) here ((all_ready s xs).0 rest),
+  λ f. rw (f (number x) (Memᴰ.head refl), (all_ready s xs).1 (λ i m. f i (Memᴰ.tail m))),
+)
 
 -- The rules of one number more, above or below
 

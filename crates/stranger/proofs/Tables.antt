@@ -3,11 +3,12 @@ use mathlib.Core.Path.{◌≡◌, refl, sym, ◌∙◌}
 use mathlib.Core.Bool.{Bool, true, false, not, cond}
 use mathlib.Core.List.Memᴰ
 use mathlib.Core.List.{List, [], ◌∷◌, ◌++◌}
+use mathlib.Core.Logic.{◌⊎◌, inl, inr, ⊎_elim}
 use Prim.Native.Nat.{ℕ, ◌+◌, ◌<◌}
 use native.Mathlib.Omega.{arith}
-use lib.Dec.{eqb, ltb}
+use lib.Dec.{eqb, ltb, lit<}
 use lib.ListN.{length}
-use borrow.Author.Tests.{eqb-true}
+use borrow.Author.Tests.{eqb-true, ne_eqb, lt-ltb}
 use Rattle.model.specs.Table.{Row, Tag, Mesg, Text, Datum, Name, Skey, Akey, Pubk, Inv, Ltk, Pair, Enc, Hash, row, kind, first, second}
 use Rattle.tables.proofs.Look.{count_is, row_in}
 use Rattle.theory.specs.Each.{Each, each_nil, each_cons, each_append}
@@ -16,6 +17,8 @@ use Rattle.theory.specs.Reach.{inverse_at}
 use Rattle.theory.proofs.Reach.{atom_rules, row_rules}
 use Rattle.theory.specs.Rules.{Rule, ◌⊢◌}
 use Rattle.tables.specs.Layout.{firsts, seconds, term_count}
+use Rattle.tables.specs.declared.kinds.Kind.{Kind}
+use Rattle.tables.specs.Kinds.{code}
 use Rattle.tables.specs.Tables.{byte, rows_in, Filled}
 use Rattle.keys.specs.Inverted.{Inverted}
 use Rattle.keys.proofs.Rows.{EarlierBytes, earlier_bytes}
@@ -30,6 +33,47 @@ grown_opened t v so_far step =
     grown_then (λ q h. h)
     (λ q h. record { of = h.of; from = h.from; to = h.to; in_list = Memᴰ.append_right (builds_at t h.of) h.in_list })
     so_far step.grown
+
+-- The rules of a term, by what was read of it
+
+module _ (t : List ℕ) (i : ℕ) (k : Kind) {a b : ℕ} (kind : code k ≡ byte t i) (first : a ≡ byte t (firsts + i))
+    (second : b ≡ byte t (seconds + i)) where
+  pub builds_read : builds_at t i ≡ builds i (code k) a b
+  unfolding builds_at
+  builds_read = rw (← kind, ← first, ← second)
+
+  pub opens_read : (v : List ℕ) → opens_at t v i ≡ opens (byte v) i (code k) a b
+  unfolding opens_at
+  opens_read v = rw (← kind, ← first, ← second)
+
+kind_cases : (k : Kind) → (code k < 10) ⊎ ((k ≡ Kind.Pair) ⊎ ((k ≡ Kind.Encryption) ⊎ (k ≡ Kind.Hash)))
+kind_cases Kind.Tag = inl (lit< tt)
+kind_cases Kind.Mesg = inl (lit< tt)
+kind_cases Kind.Text = inl (lit< tt)
+kind_cases Kind.Data = inl (lit< tt)
+kind_cases Kind.Name = inl (lit< tt)
+kind_cases Kind.Skey = inl (lit< tt)
+kind_cases Kind.Akey = inl (lit< tt)
+kind_cases Kind.Public = inl (lit< tt)
+kind_cases Kind.Inverse = inl (lit< tt)
+kind_cases Kind.LongTerm = inl (lit< tt)
+kind_cases Kind.Pair = inr (inl refl)
+kind_cases Kind.Encryption = inr (inr (inl refl))
+kind_cases Kind.Hash = inr (inr (inr refl))
+
+-- all others have no parts
+module _ (k : Kind) (no_pair : ¬ (k ≡ Kind.Pair)) (no_encryption : ¬ (k ≡ Kind.Encryption)) where
+  pub builds_none : ¬ (k ≡ Kind.Hash) → (i a b : ℕ) → builds i (code k) a b ≡ []
+  unfolding builds
+  builds_none no_hash i a b =
+      ⊎_elim (λ low. simp (ne_eqb (code k) 12 (omega arith), lt-ltb (code k) 10 low) refl)
+      (λ r. absurd (⊎_elim no_pair (⊎_elim no_encryption no_hash) r)) (kind_cases k)
+
+  pub opens_none : (f : ℕ → ℕ) (i a b : ℕ) → opens f i (code k) a b ≡ []
+  unfolding opens
+  opens_none f i a b =
+      ⊎_elim (λ low. simp (ne_eqb (code k) 10 (omega arith), ne_eqb (code k) 11 (omega arith)) refl)
+      (⊎_elim (λ e. absurd (no_pair e)) (⊎_elim (λ e. absurd (no_encryption e)) (λ e. rw e refl))) (kind_cases k)
 
 -- The rules of a row are that of the start, and its moves
 

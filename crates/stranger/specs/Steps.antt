@@ -1,8 +1,13 @@
 -- What rules that are followed do to a set. A set is given by its words.
 use Rattle.std.specs.Prelude.{◌≡◌, true, ℕ, ◌≤◌, ◌<◌}
 use mathlib.Core.List.{List, Memᴰ}
+use Rattle.terms.specs.declared.Term.{Term}
 use Rattle.terms.specs.Set.{member}
 use Rattle.theory.specs.Rules.{Rule, Reached}
+
+-- a term's number
+abbrev pub number : Term → ℕ
+number t = t.0
 
 abbrev pub Has : List ℕ → ℕ → Type 0
 Has s k = member s k ≡ true

@@ -6,30 +6,14 @@ use mathlib.Core.Bool.{Bool, true, false}
 use mathlib.Core.List.{List}
 use native.Mathlib.Omega.{arith}
 use lib.Dec.{eqb}
-use lib.ListN.{length}
 use borrow.Author.Tests.{eqb-true, eqb-false}
 use Rattle.model.specs.Lists.{upto}
 use Rattle.model.specs.Reading.{blank}
-use Rattle.tables.specs.Layout.{term_count, skeleton_count, block, table_size, strand_count, order_count, non_count, uniq_count}
+use Rattle.tables.specs.Layout.{term_count, skeleton_count, block, strand_count, order_count, non_count, uniq_count}
 use Rattle.tables.specs.Tables.{byte, strands_at, orders_at, atoms_at, skeleton_at, skeleton_in, Block, Filled}
-use Rattle.tables.specs.Stores.{Keeps, Emptied, Begun}
+use Rattle.tables.specs.Stores.{Keeps, Begun}
 use Rattle.tables.proofs.Stored.{Put}
 use Rattle.tables.proofs.Parts.{encoded_stays, block_same}
-
-pub emptied : {t t₁ t' : List ℕ} → length t ≡ table_size → Put term_count 0 t t₁ → Put skeleton_count 0 t₁ t' → Emptied t'
-emptied l p q =
-    let terms = q.apart term_count (omega arith) ∙ p.here in
-    record {
-      terms = terms;
-      skeletons = q.here;
-      filled = record {
-        long = q.long ∙ (p.long ∙ l);
-        terms = rw terms (omega arith);
-        encoded = λ i h. absurd (omega (arith, terms));
-        skeletons = rw q.here (omega arith);
-        blocks = λ k h. absurd (omega (arith, q.here));
-      };
-    }
 
 module _ {t t₁ t₂ t₃ t₄ t' : List ℕ} (k : ℕ) (f : Filled t) (is : k ≡ byte t skeleton_count) (room : k < 2)
     (s : Put (block k + strand_count) 0 t t₁) (o : Put (block k + order_count) 0 t₁ t₂) (n : Put (block k + non_count) 0 t₂ t₃)

@@ -13,6 +13,8 @@ use Rattle.model.specs.Reading.{with_order, with_non, with_uniq}
 use Rattle.tables.specs.Layout.{term_count, skeleton_count, block, block_size, table_size, strand_count, order_count, non_count, uniq_count, heights, directions, orders, nons, uniqs}
 use Rattle.tables.specs.Tables.{byte, orders_at, atoms_at, skeleton_at, skeleton_in, Block, Filled}
 use Rattle.tables.specs.Stores.{Keeps, Redrawn}
+use Rattle.tables.specs.Assumed.{count_place, atoms_place, with_atom}
+use Rattle.tables.specs.declared.blocks.Assumed.{Assumed}
 use Rattle.theory.specs.Upto.{upto_more}
 use Rattle.tables.proofs.Stored.{Put, keeps_within}
 use Rattle.tables.proofs.Parts.{encoded_stays, strands_same, orders_same, atoms_same, four_lists, block_same}
@@ -80,6 +82,10 @@ atom_more : (i n a : ℕ) {t t' : List ℕ} → Keeps i (i + n) t t' → byte t'
 unfolding atoms_at
 atom_more i n a s e = upto_more n _ _ a (λ j l. s.same (i + j) (omega arith) (omega arith)) e
 
+pub places_low : (which : Assumed) → (count_place which ≤ uniq_count) × (atoms_place which ≤ uniqs)
+places_low Assumed.Non = (omega arith, omega arith)
+places_low Assumed.Uniq = (omega arith, omega arith)
+
 module _ (t t₁ t' : List ℕ) (k n a : ℕ) (f : Filled t) (l : k < byte t skeleton_count) where
   -- an atom of either kind: n are counted at c, and they lie from i on
   module _ (c i : ℕ) (low : non_count ≤ c) (high : c < heights) (far : nons ≤ i) (near : i + n < block_size)
@@ -89,9 +95,6 @@ module _ (t t₁ t' : List ℕ) (k n a : ℕ) (f : Filled t) (l : k < byte t ske
 
     keeps : (lo hi : ℕ) → ((j : ℕ) → lo ≤ j → j < hi → (j ≢ block k + i + n) × (j ≢ block k + c)) → Keeps lo hi t t'
     keeps = two_keeps p q
-
-    put_here : byte t' (block k + i + n) ≡ a
-    put_here = q.apart (block k + i + n) (omega arith) ∙ p.here
 
     atom_put : {non uniq : List ℕ} → byte t' (block k + non_count) ≤ 32 → byte t' (block k + uniq_count) ≤ 32
         → atoms_at (byte t' (block k + non_count)) t' (block k + nons) ≡ non
@@ -113,7 +116,7 @@ module _ (t t₁ t' : List ℕ) (k n a : ℕ) (f : Filled t) (l : k < byte t ske
 
   module _ (is : n ≡ byte t (block k + non_count)) (room : n < 32)
       (p : Put (block k + nons + n) a t t₁) (q : Put (block k + non_count) (byte t (block k + non_count) + 1) t₁ t') where
-    pub non_put : Redrawn k (with_non (skeleton_in t k) a) t t'
+    non_put : Redrawn k (with_non (skeleton_in t k) a) t t'
     unfolding skeleton_at with_non
     non_put =
         let b = block k in
@@ -128,7 +131,7 @@ module _ (t t₁ t' : List ℕ) (k n a : ℕ) (f : Filled t) (l : k < byte t ske
 
   module _ (is : n ≡ byte t (block k + uniq_count)) (room : n < 32)
       (p : Put (block k + uniqs + n) a t t₁) (q : Put (block k + uniq_count) (byte t (block k + uniq_count) + 1) t₁ t') where
-    pub uniq_put : Redrawn k (with_uniq (skeleton_in t k) a) t t'
+    uniq_put : Redrawn k (with_uniq (skeleton_in t k) a) t t'
     unfolding skeleton_at with_uniq
     uniq_put =
         let b = block k in
@@ -140,6 +143,13 @@ module _ (t t₁ t' : List ℕ) (k n a : ℕ) (f : Filled t) (l : k < byte t ske
         (rw m (atoms_same (b + nons) _ (two_keeps p q _ _ (omega (arith, B.nons_most)))))
         (rw (u, ← is)
         (atom_more (b + uniqs) n a (two_keeps p q _ _ (omega arith)) (q.apart (b + uniqs + n) (omega arith) ∙ p.here)))
+
+  pub assumed_put : (which : Assumed) → n ≡ byte t (block k + count_place which) → n < 32
+      → Put (block k + atoms_place which + n) a t t₁
+      → Put (block k + count_place which) (byte t (block k + count_place which) + 1) t₁ t'
+      → Redrawn k (with_atom which (skeleton_in t k) a) t t'
+  assumed_put Assumed.Non is room p q = non_put is room p q
+  assumed_put Assumed.Uniq is room p q = uniq_put is room p q
 
 -- ---- an OR record: four bytes from `at` on
 module _ {t t₁ t₂ t₃ t₄ : List ℕ} (at a b c d : ℕ) (p : Put at a t t₁) (q : Put (at + 1) b t₁ t₂) (r : Put (at + 2) c t₂ t₃)

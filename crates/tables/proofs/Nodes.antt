@@ -9,7 +9,7 @@ use mathlib.Core.List.{List, [], Memᴰ}
 use mathlib.Core.Option.{Option, none, some}
 use lib.Dec.{eqb}
 use lib.ListN.{length, length-map}
-use borrow.Author.Tests.{eqb-true, eqb-false, eq-eqb, ne_eqb}
+use borrow.Author.Tests.{eqb-true, eqb-false}
 use Rattle.model.specs.Term.{Term}
 use Rattle.model.specs.Skeleton.{Event, send, recv, message, Node, trace, height, At, means}
 use Rattle.model.specs.Reading as Reading
@@ -18,7 +18,7 @@ use Rattle.theory.specs.Places.{not_there}
 use Rattle.theory.specs.Upto.{OneOf, length-upto, upto_at, upto_out, upto_there, upto_none, upto_below, upto_is, upto_has, upto_only}
 use Rattle.tables.specs.Layout.{strand_count, order_count, heights, orders}
 use Rattle.tables.specs.Tables.{byte, node_at, trace_at, strands_at, orders_at, skeleton_at, Block}
-use Rattle.tables.specs.Nodes.{direction_at, message_at, There, Stands}
+use Rattle.tables.specs.Nodes.{direction_at, message_at, There, Stands, Low}
 use Rattle.tables.proofs.Look.{length_strands}
 
 other : (d m : ℕ) → d ≢ 0 → event d m ≡ recv m
@@ -97,13 +97,13 @@ module _ (t : List ℕ) (b : ℕ) where
     unfolding Reading.event_at trace_at
     no_node l h = rw (trace_in n.strand l) (sym (upto_none (byte t (b + heights + n.strand)) _ n.position h))
 
-    pub a_send : There t b n → direction_at t b n ≡ 0 → some (send (message_at t b n)) ≡ found
+    pub a_send : {m : ℕ} → There t b n → eqb (direction_at t b n) 0 ≡ true → m ≡ message_at t b n → some (send m) ≡ found
     unfolding Reading.event_at
-    a_send h d = sym (sent_at {n = n} h (eq-eqb (direction_at t b n) 0 d) refl).is
+    a_send h d m = sym (sent_at {n = n} h d m).is
 
-    pub a_reception : There t b n → direction_at t b n ≢ 0 → some (recv (message_at t b n)) ≡ found
+    pub a_reception : {m : ℕ} → There t b n → eqb (direction_at t b n) 0 ≡ false → m ≡ message_at t b n → some (recv m) ≡ found
     unfolding Reading.event_at
-    a_reception h d = sym (received_at {n = n} h (ne_eqb (direction_at t b n) 0 d) refl).is
+    a_reception h d m = sym (received_at {n = n} h d m).is
 
   -- OR pairs
 
@@ -120,6 +120,13 @@ module _ (t : List ℕ) (b : ℕ) where
 
 -- How far strands and positions go
 module _ {t : List ℕ} {b : ℕ} (block : Block t b) where
+  pub there_low : {n : Node} → There t b n → Low n
+  there_low {n} h =
+      record {
+        strand = omega (arith, h.strand, block.strands);
+        position = omega (arith, h.position, block.low n.strand h.strand);
+      }
+
   pub strand_low : {n : Node} {e : Event ℕ} → At (skeleton_at t b) n e → n.strand < 6
   strand_low a = omega (arith, (at_stands t b a).there.strand, block.strands)
 

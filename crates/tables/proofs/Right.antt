@@ -2,7 +2,7 @@
 use Prim.Native.Nat.{ℕ, zero, suc, ◌≤◌, ◌<◌}
 use mathlib.Core.Path.{◌≡◌, refl, sym, ◌∙◌}
 use mathlib.Core.Bool.{Bool, true, false, cond, not, ◌&&◌, ◌||◌, and_assoc, and_comm, and-true, or-false, true≢false}
-use mathlib.Core.List.{List, [], ◌∷◌}
+use mathlib.Core.List.{List}
 use mathlib.Core.Option.{some, none}
 use native.Mathlib.Omega.{arith}
 use lib.Dec.{ltb, leb, eqb}
@@ -10,13 +10,13 @@ use lib.ListN.{length}
 use borrow.Author.Tests.{leb-true, leb-false, eqb-true, eqb-false, eq-eqb, ne_eqb, lt-leb, le-leb}
 use Rattle.model.specs.Table as Table
 use Rattle.model.specs.Table.{Tag, Mesg, Text, Datum, Name, Skey, Akey, Pubk, Inv, Ltk, Pair, Enc, Hash, kind, first, second, row, row_of_kind, is_mesg, is_name, is_key, is_atom, earlier, sorted}
-use Rattle.theory.specs.GoodTable.{row_of_bytes}
 use Rattle.theory.specs.Tests.{both_true}
-use Rattle.theory.specs.Places.{no_element, inside_list}
+use Rattle.theory.specs.Places.{no_element}
 use Rattle.model.specs.Reading.{Said, check, need, says, term, on_sheet, read_row, an_atom}
 use Rattle.tables.specs.Tables.{the_row}
 use Rattle.tables.specs.Rows.{row_of, Written, kind_of, by_kinds}
 use Rattle.tables.specs.declared.rows.Row.{Row}
+use Rattle.tables.proofs.Look.{all_kinds, kind_small}
 
 -- what holds of each kind
 thirteen : (P : ℕ → Type 0) → P 0 → P 1 → P 2 → P 3 → P 4 → P 5 → P 6 → P 7 → P 8 → P 9 → P 10 → P 11 → P 12 → (k : ℕ) → k < 13
@@ -37,17 +37,9 @@ thirteen P a b c d e f g h i j k l m (suc (suc (suc (suc (suc (suc (suc (suc (su
 thirteen P a b c d e f g h i j k l m (suc (suc (suc (suc (suc (suc (suc (suc (suc (suc (suc (suc (suc n))))))))))))) q =
     absurd (omega arith)
 
--- a row of each kind
-abbrev all_kinds : ℕ → ℕ → List Table.Row
-all_kinds a b =
-    Tag a ∷ Mesg a ∷ Text a ∷ Datum a ∷ Name a ∷ Skey a ∷ Akey a ∷ Pubk a ∷ Inv a ∷ Ltk a b ∷ Pair a b ∷ Enc a b ∷ Hash a ∷ []
-
 -- a row's kind is one
-kind_small : (r : Table.Row) → leb (kind r) 12 ≡ true
-unfolding row_of_kind
-kind_small r =
-    let l : kind r < 13 = inside_list (all_kinds (first r) (second r)) (kind r) (row_of_bytes r) in le-leb (kind r) 12
-    (omega arith)
+a_kind : (r : Table.Row) → leb (kind r) 12 ≡ true
+a_kind r = le-leb (kind r) 12 (omega (arith, kind_small r))
 
 -- the tests of an argument by its kind: one that 255 does not pass asks for a term too
 module _ (rows : List Table.Row) (t : ℕ) where
@@ -68,11 +60,11 @@ module _ (rows : List Table.Row) (t : ℕ) where
   key_test = of_kind (λ k. eqb k 6 || eqb k 7) refl
 
   term_test : leb (kind_of rows t) 12 ≡ ltb t (length rows)
-  term_test = of_kind (λ k. leb k 12) refl ∙ rw kind_small (and-true (ltb t (length rows)))
+  term_test = of_kind (λ k. leb k 12) refl ∙ rw a_kind (and-true (ltb t (length rows)))
 
   body_test : leb (kind_of rows t) 12 && not (eqb (kind_of rows t) 1) ≡ ltb t (length rows) && not (is_mesg (row rows t))
   unfolding is_mesg
-  body_test = of_kind (λ k. leb k 12 && not (eqb k 1)) refl ∙ rw kind_small
+  body_test = of_kind (λ k. leb k 12 && not (eqb k 1)) refl ∙ rw a_kind
 
   pub atom_test : leb 2 (kind_of rows t) && leb (kind_of rows t) 9 ≡ an_atom rows t
   unfolding an_atom is_atom

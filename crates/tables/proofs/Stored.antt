@@ -1,6 +1,6 @@
 -- A store changes one place, and what is apart from it stays.
 use Prim.Native.Nat.{ℕ, ◌≤◌, ◌<◌}
-use mathlib.Core.Path.{◌≡◌, refl, ◌∙◌}
+use mathlib.Core.Path.{◌≡◌}
 use mathlib.Core.Logic.{◌≢◌}
 use mathlib.Core.List.{List}
 use native.Mathlib.Omega.{arith}
@@ -19,15 +19,5 @@ pub put_set : (t : List ℕ) (i v : ℕ) → i < length t → Put i v t (set t i
 put_set t i v h =
     record { long = length-set t i v; here = get_or-set_same t i v 0 h; apart = λ j n. get_or-set_other t i j v 0 n }
 
-pub keeps_all : (lo hi : ℕ) (t : List ℕ) → Keeps lo hi t t
-keeps_all lo hi t = record { same = λ j l h. refl }
-
-pub keeps_put : {lo hi i v : ℕ} {t t' t'' : List ℕ} → Put i v t' t'' → ((j : ℕ) → lo ≤ j → j < hi → j ≢ i) → Keeps lo hi t t'
-    → Keeps lo hi t t''
-keeps_put p n k = record { same = λ j l h. p.apart j (n j l h) ∙ k.same j l h }
-
 pub keeps_within : {lo hi lo' hi' : ℕ} {t t' : List ℕ} → lo ≤ lo' → hi' ≤ hi → Keeps lo hi t t' → Keeps lo' hi' t t'
 keeps_within l h k = record { same = λ j a b. k.same j (omega arith) (omega arith) }
-
-pub keeps_then : {lo hi : ℕ} {t t' t'' : List ℕ} → Keeps lo hi t t' → Keeps lo hi t' t'' → Keeps lo hi t t''
-keeps_then k q = record { same = λ j l h. q.same j l h ∙ k.same j l h }

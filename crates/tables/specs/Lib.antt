@@ -3,6 +3,9 @@ pub mod Layout
 pub mod Tables
 pub mod Nodes
 pub mod Drawn
+pub mod Props
+pub mod Kinds
+pub mod Assumed
 -- What the functions of `tables` ask and do.
 pub mod Rows
 pub mod Stores

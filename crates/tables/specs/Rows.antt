@@ -1,8 +1,9 @@
 -- The bytes of a TM record, and its test by the kinds of its arguments.
-use Rattle.std.specs.Prelude.{ℕ, ◌+◌, ◌≡◌, Bool, cond, not, ◌&&◌, ◌||◌, List, length, ltb, leb, eqb}
+use Rattle.std.specs.Prelude.{ℕ, ◌+◌, ◌≡◌, Bool, cond, not, ◌&&◌, ◌||◌, List, length, ltb, leb, eqb, ◌<◌, Option, Some, None}
+use Rattle.terms.specs.declared.Term.{Term}
 use Rattle.model.specs.Table.{kind, first, second, row}
 use Rattle.model.specs.Table as Table
-use Rattle.tables.specs.Layout.{firsts, seconds}
+use Rattle.tables.specs.Layout.{firsts, seconds, term_count}
 use Rattle.tables.specs.Tables.{byte, the_row}
 use Rattle.tables.specs.declared.rows.Row.{Row}
 
@@ -19,6 +20,17 @@ pub record Written (r : Row) : Type 0 where
 -- whether the bytes of the row i are these
 abbrev pub same_bytes : List ℕ → ℕ → Row → Bool
 same_bytes t i r = eqb (byte t i) r.kind && eqb (byte t (firsts + i)) r.first && eqb (byte t (seconds + i)) r.second
+
+-- the row i has the kind k and the arguments a and b
+pub record IsRow (t : List ℕ) (k a b i : ℕ) : Type 0 where
+  pub kind : byte t i ≡ k
+  pub first : byte t (firsts + i) ≡ a
+  pub second : byte t (seconds + i) ≡ b
+
+-- the number of the row with this kind and these arguments, if there is one
+pub data LooksUp (t : List ℕ) (k a b : ℕ) : Option Term → Type 0 where
+  found : {i : ℕ} → i < byte t term_count → IsRow t k a b i → LooksUp t k a b (Some (record { 0 = i }))
+  missing : ((i : ℕ) → i < byte t term_count → ¬ IsRow t k a b i) → LooksUp t k a b None
 
 -- the kind of a term, and 255, which is no kind, where there is no such term
 unfoldable pub kind_of : List Table.Row → ℕ → ℕ

@@ -1,6 +1,6 @@
 -- What a store into a table does: what it adds, and what stays.
-use Rattle.std.specs.Prelude.{ℕ, ◌+◌, ◌*◌, ◌≤◌, ◌<◌, ◌≡◌, List, [], ◌∷◌, ◌++◌, length}
-use Rattle.std.proofs.Math.Option.{Option, none, some}
+use Rattle.std.specs.Prelude.{ℕ, ◌+◌, ◌*◌, ◌≤◌, ◌<◌, ◌≡◌, List, [], ◌∷◌, ◌++◌, length, Option, Some, None}
+use Rattle.std.proofs.Math.Option as Math
 use Rattle.model.specs.Skeleton.{send, recv, Skeleton}
 use Rattle.model.specs.Skeleton as Skeleton
 use Rattle.model.specs.Reading.{blank}
@@ -57,7 +57,7 @@ pub record EventsPut (d m n : ℕ) (rest t t' : List ℕ) : Type 0 where
   pub apart : (j : ℕ) → (j < d + 16 → j < d) → (j < m + 16 → j < m) → byte t' j ≡ byte t j
 
 -- what an event found in a table says
-abbrev pub event_said : Event → Option (Skeleton.Event ℕ)
-event_said (Event.Send t) = some (send t.0)
-event_said (Event.Reception t) = some (recv t.0)
-event_said Event.Nothing = none
+abbrev pub event_said : Option Event → Math.Option (Skeleton.Event ℕ)
+event_said (Some (Event.Send t)) = Math.some (send t.0)
+event_said (Some (Event.Reception t)) = Math.some (recv t.0)
+event_said None = Math.none

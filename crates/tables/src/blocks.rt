@@ -1,67 +1,67 @@
 // The skeletons of a table: a block of bytes for each of them.
-ghost use Rattle.std.specs.Prelude.{◌≡◌, true, ◌↔◌, ℕ, ◌+◌, ◌*◌, ◌<◌, ◌≤◌, length};
+ghost use Rattle.std.specs.Prelude.{◌≡◌, true, ◌↔◌, ◌+◌, ◌*◌, ◌<◌, ◌≤◌, eqb, length};
 ghost use Rattle.terms.specs.Set.{IsSetOf};
 ghost use Rattle.model.specs.Lists.{upto};
 ghost use Rattle.model.specs.Says.{node_of};
-ghost use Rattle.model.specs.Reading.{event_at, event_in, with_strand, with_order, with_non, with_uniq};
-ghost use Rattle.tables.specs.Layout.{skeleton_count, block, strand_count, order_count, non_count, uniq_count, table_size};
-ghost use Rattle.tables.specs.Tables.{byte, atoms_at, skeleton_in, Filled};
+ghost use Rattle.model.specs.Reading.{event_at, event_in, with_strand, with_order};
+ghost use Rattle.tables.specs.Layout.{skeleton_count, block, strand_count, order_count, heights, orders, block_size, table_size};
+ghost use Rattle.tables.specs.Tables.{byte, node_at, skeleton_at, skeleton_in, Block, Filled};
+ghost use Rattle.tables.specs.Nodes.{direction_at, message_at, Low, EventIs};
+ghost use Rattle.tables.specs.Assumed.{assumed, count_place, atoms_place, with_atom};
 ghost use Rattle.tables.specs.Stores.{event_said, EventsPut, HasRoom, Redrawn, Begun, Emptied};
 
 use crate::{
     BLOCK_SIZE, BLOCKS, DIRECTIONS, HEIGHTS, MESSAGES, NON_COUNT, NONS, ORDER_COUNT, ORDERS, ROOM,
-    SKELETON_COUNT, STRAND_COUNT, TERM_COUNT, UNIQ_COUNT, UNIQS, wide,
+    SKELETON_COUNT, STRAND_COUNT, TERM_COUNT, UNIQ_COUNT, UNIQS,
 };
-use terms::{Node, Term, TermSet};
+use terms::{Node, Strand, Term, TermSet};
 
-// The directions.
+// The two bytes that a sheet has for a direction.
 pub const SEND: u8 = 0;
 
 pub const RECEIVE: u8 = 1;
 
-// What a strand does at a node, where there is such a node.
-#[derive(Clone, Copy)]
+// What a strand does at a node.
+#[derive(Clone, Copy, PartialEq, Eq)]
 pub enum Event {
     Send(Term),
     Reception(Term),
-    Nothing,
+}
+
+// What a skeleton assumes of an atom: that it never originates, or that it does so once.
+#[derive(Clone, Copy, PartialEq, Eq)]
+pub enum Assumed {
+    Non,
+    Uniq,
+}
+
+impl Assumed {
+    // Where in a block the count of its atoms stands, and where these begin.
+    fn count_place(self) -> usize
+        ensures { result ≡ count_place self }
+    {
+        match self {
+            Assumed::Non => NON_COUNT,
+            Assumed::Uniq => UNIQ_COUNT,
+        }
+    }
+
+    fn atoms_place(self) -> usize
+        ensures { result ≡ atoms_place self }
+    {
+        match self {
+            Assumed::Non => NONS,
+            Assumed::Uniq => UNIQS,
+        }
+    }
 }
 
 // How many skeletons there are.
-pub fn skeletons_in(table: &[u8]) -> usize
+pub fn skeletons_in(table: &[u8]) -> u8
     requires { length table.now ≡ table_size }
     ensures { result ≡ byte table.now skeleton_count }
 {
-    wide(table[SKELETON_COUNT])
-}
-
-// How many strands, OR, NO and UO records the skeleton k has.
-pub fn strands_in(table: &[u8], k: usize) -> usize
-    requires { (length table.now ≡ table_size) × (k < 2) }
-    ensures { result ≡ byte table.now (block k + strand_count) }
-{
-    wide(table[BLOCKS + BLOCK_SIZE * k + STRAND_COUNT])
-}
-
-pub fn orders_in(table: &[u8], k: usize) -> usize
-    requires { (length table.now ≡ table_size) × (k < 2) }
-    ensures { result ≡ byte table.now (block k + order_count) }
-{
-    wide(table[BLOCKS + BLOCK_SIZE * k + ORDER_COUNT])
-}
-
-pub fn nons_in(table: &[u8], k: usize) -> usize
-    requires { (length table.now ≡ table_size) × (k < 2) }
-    ensures { result ≡ byte table.now (block k + non_count) }
-{
-    wide(table[BLOCKS + BLOCK_SIZE * k + NON_COUNT])
-}
-
-pub fn uniqs_in(table: &[u8], k: usize) -> usize
-    requires { (length table.now ≡ table_size) × (k < 2) }
-    ensures { result ≡ byte table.now (block k + uniq_count) }
-{
-    wide(table[BLOCKS + BLOCK_SIZE * k + UNIQ_COUNT])
+    table[SKELETON_COUNT]
 }
 
 // Whether there is a skeleton k.
@@ -69,47 +69,118 @@ pub fn has_skeleton(table: &[u8], k: u8) -> bool
     requires { Filled table.now }
     ensures { (result ≡ true) ↔ (k < byte table.now skeleton_count) }
 {
-    k < table[SKELETON_COUNT]
+    k < skeletons_in(table)
 }
 
 // Where the block of the skeleton k begins.
 pub fn block_of(k: u8) -> usize
     ensures { result ≡ block k }
 {
-    BLOCKS + BLOCK_SIZE * wide(k)
+    BLOCKS + BLOCK_SIZE * usize::from(k)
 }
 
-// The set of the `count` atoms whose bytes begin at `at`.
-pub fn atoms(table: &[u8], at: usize, count: u8) -> TermSet
-    requires { at + count ≤ length table.now }
-    ensures { IsSetOf (atoms_at count table.now at) result }
+// How many strands and OR records the skeleton has whose block begins at `block`; and how many NO or UO records. They ask for the
+// room of a block alone, since a sheet is read before all that a `Drawing` knows is there. The first two differ in a place only:
+// one function over both would be named by that place, and no plainer.
+pub fn strands_in(table: &[u8], block: usize) -> u8
+    requires { (length table.now ≡ table_size) × (block + block_size ≤ table_size) }
+    ensures { result ≡ byte table.now (block + strand_count) }
 {
+    table[block + STRAND_COUNT]
+}
+
+pub fn orders_in(table: &[u8], block: usize) -> u8
+    requires { (length table.now ≡ table_size) × (block + block_size ≤ table_size) }
+    ensures { result ≡ byte table.now (block + order_count) }
+{
+    table[block + ORDER_COUNT]
+}
+
+pub fn atoms_in(table: &[u8], block: usize, which: Assumed) -> u8
+    requires { (length table.now ≡ table_size) × (block + block_size ≤ table_size) }
+    ensures { result ≡ byte table.now (block + count_place which) }
+{
+    table[block + which.count_place()]
+}
+
+// The set of the atoms of these.
+pub fn atoms(table: &[u8], block: usize, which: Assumed) -> TermSet
+    requires { (length table.now ≡ table_size) × Block table.now block × (block + block_size ≤ table_size) }
+    ensures { IsSetOf (assumed which (skeleton_at table.now block)) result }
+{
+    let at = block + which.atoms_place();
     let mut set = TermSet::EMPTY;
-    for j in 0..count {
-        set = set.with(Term(table[at + wide(j)]));
+    for atom in &table[at..at + usize::from(atoms_in(table, block, which))] {
+        set.insert(Term(*atom));
     }
     set
 }
 
-// The event at a node of the skeleton k.
-pub fn event_at(table: &[u8], k: usize, node: Node) -> Event
-    requires { Filled table.now × (k < byte table.now skeleton_count) }
-    ensures { event_said result ≡ event_at (skeleton_in table.now k) (node_of node) }
+// How many events a strand has.
+pub fn height_at(table: &[u8], block: usize, strand: Strand) -> u8
+    requires { (length table.now ≡ table_size) × (block + block_size ≤ table_size) × (strand.0 < 6) }
+    ensures { result ≡ byte table.now (block + heights + strand.0) }
 {
-    let b = BLOCKS + BLOCK_SIZE * k;
-    let s = node.strand.0 as usize;
-    let p = node.position as usize;
-    if wide(table[b + STRAND_COUNT]) <= s {
-        return Event::Nothing;
+    table[block + HEIGHTS + usize::from(strand.0)]
+}
+
+// The message of a node, and whether it is a send.
+#[tactic(auto, unfolding(model::specs::Says::node_of))]
+pub fn message_at(table: &[u8], block: usize, node: Node) -> Term
+    requires { (length table.now ≡ table_size) × (block + block_size ≤ table_size) × Low (node_of node) }
+    ensures { result.0 ≡ message_at table.now block (node_of node) }
+{
+    Term(table[block + MESSAGES + ROOM * usize::from(node.strand.0) + usize::from(node.position)])
+}
+
+#[tactic(auto, unfolding(model::specs::Says::node_of))]
+pub fn is_send_at(table: &[u8], block: usize, node: Node) -> bool
+    requires { (length table.now ≡ table_size) × (block + block_size ≤ table_size) × Low (node_of node) }
+    ensures { result ≡ eqb (direction_at table.now block (node_of node)) 0 }
+{
+    table[block + DIRECTIONS + ROOM * usize::from(node.strand.0) + usize::from(node.position)]
+        == SEND
+}
+
+// What stands at a node: nothing beyond the strands, and nothing beyond a strand's height.
+pub fn event_at(table: &[u8], block: usize, node: Node) -> Option<Event>
+    requires { (length table.now ≡ table_size) × Block table.now block × (block + block_size ≤ table_size) }
+    ensures said { event_said result ≡ event_at (skeleton_at table.now block) (node_of node) }
+    ensures is { EventIs (skeleton_at table.now block) (node_of node) result }
+{
+    if strands_in(table, block) <= node.strand.0 {
+        return None;
     }
-    if wide(table[b + HEIGHTS + s]) <= p {
-        return Event::Nothing;
+    if height_at(table, block, node.strand) <= node.position {
+        return None;
     }
-    let message = Term(table[b + MESSAGES + ROOM * s + p]);
-    if table[b + DIRECTIONS + ROOM * s + p] == SEND {
-        return Event::Send(message);
+    let message = message_at(table, block, node);
+    if is_send_at(table, block, node) {
+        return Some(Event::Send(message));
     }
-    Event::Reception(message)
+    Some(Event::Reception(message))
+}
+
+// The node whose strand and position are the bytes from `at` on.
+#[tactic(auto, unfolding(model::specs::Says::node_of))]
+fn node_at(table: &[u8], at: usize) -> Node
+    requires { at + 1 < length table.now }
+    ensures { node_of result ≡ node_at table.now at }
+{
+    Node {
+        strand: Strand(table[at]),
+        position: table[at + 1],
+    }
+}
+
+// The OR pair i: a send and a reception.
+pub fn pair_at(table: &[u8], block: usize, i: u8) -> (Node, Node)
+    requires { (length table.now ≡ table_size) × (block + block_size ≤ table_size) × (i < 64) }
+    ensures send { node_of result.0 ≡ node_at table.now (block + orders + 4 * i) }
+    ensures reception { node_of result.1 ≡ node_at table.now (block + orders + 4 * i + 2) }
+{
+    let at = block + ORDERS + 4 * usize::from(i);
+    (node_at(table, at), node_at(table, at + 2))
 }
 
 // No terms and no skeletons.
@@ -127,8 +198,7 @@ pub fn put_skeleton(table: &mut [u8])
     ensures { Begun table.old table.new }
 {
     let count = table[SKELETON_COUNT];
-    let k = wide(count);
-    let b = BLOCKS + BLOCK_SIZE * k;
+    let b = block_of(count);
     table[b + STRAND_COUNT] = 0;
     table[b + ORDER_COUNT] = 0;
     table[b + NON_COUNT] = 0;
@@ -136,7 +206,8 @@ pub fn put_skeleton(table: &mut [u8])
     table[SKELETON_COUNT] = count + 1;
 }
 
-// The events of the ST record `rest`: their directions from d on, their messages from m on.
+// The events of the ST record `rest`: their directions from d on, their messages from m on. The index stands in the loop, since two
+// columns are written for each event.
 fn put_events(table: &mut [u8], d: usize, m: usize, height: usize, rest: &[u8])
     requires { (d + 16 ≤ m) × (m + 16 ≤ length table.old) × (height ≤ 16) × (3 + 2 * height ≤ length rest.now) }
     ensures { EventsPut d m height rest.now table.old table.new }
@@ -148,30 +219,30 @@ fn put_events(table: &mut [u8], d: usize, m: usize, height: usize, rest: &[u8])
 }
 
 // One strand more in the skeleton k: the ST record `rest`.
-pub fn put_strand(table: &mut [u8], k: usize, height: u8, rest: &[u8])
+pub fn put_strand(table: &mut [u8], k: u8, height: u8, rest: &[u8])
     requires { HasRoom k strand_count 6 table.old × (height ≤ 16) × (3 + 2 * height ≤ length rest.now) }
     ensures { Redrawn k (with_strand (skeleton_in table.old k) (upto height (event_in rest.now)))
         table.old table.new }
 {
-    let b = BLOCKS + BLOCK_SIZE * k;
+    let b = block_of(k);
     let count = table[b + STRAND_COUNT];
-    let n = wide(count);
+    let n = usize::from(count);
     let d = b + DIRECTIONS + ROOM * n;
     let m = b + MESSAGES + ROOM * n;
-    put_events(table, d, m, height as usize, rest);
+    put_events(table, d, m, usize::from(height), rest);
     table[b + HEIGHTS + n] = height;
     table[b + STRAND_COUNT] = count + 1;
 }
 
 // One OR record more in the skeleton k.
-pub fn put_order(table: &mut [u8], k: usize, send: Node, reception: Node)
+pub fn put_order(table: &mut [u8], k: u8, send: Node, reception: Node)
     requires { HasRoom k order_count 64 table.old }
     ensures { Redrawn k (with_order (skeleton_in table.old k) (node_of send) (node_of reception))
         table.old table.new }
 {
-    let b = BLOCKS + BLOCK_SIZE * k;
+    let b = block_of(k);
     let count = table[b + ORDER_COUNT];
-    let at = b + ORDERS + 4 * wide(count);
+    let at = b + ORDERS + 4 * usize::from(count);
     table[at] = send.strand.0;
     table[at + 1] = send.position;
     table[at + 2] = reception.strand.0;
@@ -179,28 +250,15 @@ pub fn put_order(table: &mut [u8], k: usize, send: Node, reception: Node)
     table[b + ORDER_COUNT] = count + 1;
 }
 
-// One NO record more in the skeleton k.
-pub fn put_non(table: &mut [u8], k: usize, atom: Term)
-    requires { HasRoom k non_count 32 table.old }
-    ensures { Redrawn k (with_non (skeleton_in table.old k) atom.0)
+// One NO or UO record more in the skeleton k.
+pub fn put_atom(table: &mut [u8], k: u8, which: Assumed, atom: Term)
+    requires { HasRoom k (count_place which) 32 table.old }
+    ensures { Redrawn k (with_atom which (skeleton_in table.old k) atom.0)
         table.old table.new }
 {
-    let b = BLOCKS + BLOCK_SIZE * k;
-    let count = table[b + NON_COUNT];
-    let n = wide(count);
-    table[b + NONS + n] = atom.0;
-    table[b + NON_COUNT] = count + 1;
-}
-
-// One UO record more in the skeleton k.
-pub fn put_uniq(table: &mut [u8], k: usize, atom: Term)
-    requires { HasRoom k uniq_count 32 table.old }
-    ensures { Redrawn k (with_uniq (skeleton_in table.old k) atom.0)
-        table.old table.new }
-{
-    let b = BLOCKS + BLOCK_SIZE * k;
-    let count = table[b + UNIQ_COUNT];
-    let n = wide(count);
-    table[b + UNIQS + n] = atom.0;
-    table[b + UNIQ_COUNT] = count + 1;
+    let b = block_of(k);
+    let counted = b + which.count_place();
+    let count = table[counted];
+    table[b + which.atoms_place() + usize::from(count)] = atom.0;
+    table[counted] = count + 1;
 }

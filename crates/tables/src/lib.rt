@@ -1,10 +1,12 @@
-// The table that a sheet is read into: one part of memory that whoever calls lends. Where everything lies in it, and what it
-// means, is said in specs/Layout.antt and specs/Tables.antt.
+// The table that a sheet is read into: one part of memory, lent while the sheet is read; `accept::sheet::Sheet` owns it afterwards.
+// Where everything lies in it, and what it means, is said in specs/Layout.antt and specs/Tables.antt. It stays bytes, with the
+// places computed here alone: the definitions that say what it means, and every theorem over them, read one list of bytes. The
+// terms lie in columns so that a search runs on many rows at once.
 #![tactic(auto)]
 
-ghost use Rattle.std.specs.Prelude.{◌≡◌};
-
 pub mod blocks;
+pub mod drawing;
+pub mod kinds;
 pub mod rows;
 
 // How many bytes the table takes.
@@ -26,45 +28,38 @@ pub const MOST_NONS: usize = 32;
 pub const MOST_UNIQS: usize = 32;
 
 // Where everything lies: the columns of the terms, the counts, the blocks.
-pub const FIRSTS: usize = MOST_TERMS;
+const FIRSTS: usize = MOST_TERMS;
 
-pub const SECONDS: usize = 2 * MOST_TERMS;
+const SECONDS: usize = 2 * MOST_TERMS;
 
-pub const TERM_COUNT: usize = 3 * MOST_TERMS;
+const TERM_COUNT: usize = 3 * MOST_TERMS;
 
-pub const SKELETON_COUNT: usize = TERM_COUNT + 1;
+const SKELETON_COUNT: usize = TERM_COUNT + 1;
 
 const BLOCKS: usize = SKELETON_COUNT + 1;
 
 // How many nodes a strand has room for.
-pub const ROOM: usize = MOST_HEIGHT;
+const ROOM: usize = MOST_HEIGHT;
 
 // Where everything lies within a block: the counts, the heights, a direction and a message for each node, the records.
-pub const STRAND_COUNT: usize = 0;
+const STRAND_COUNT: usize = 0;
 
-pub const ORDER_COUNT: usize = 1;
+const ORDER_COUNT: usize = 1;
 
-pub const NON_COUNT: usize = 2;
+const NON_COUNT: usize = 2;
 
-pub const UNIQ_COUNT: usize = 3;
+const UNIQ_COUNT: usize = 3;
 
-pub const HEIGHTS: usize = 4;
+const HEIGHTS: usize = 4;
 
-pub const DIRECTIONS: usize = HEIGHTS + MOST_STRANDS;
+const DIRECTIONS: usize = HEIGHTS + MOST_STRANDS;
 
-pub const MESSAGES: usize = DIRECTIONS + ROOM * MOST_STRANDS;
+const MESSAGES: usize = DIRECTIONS + ROOM * MOST_STRANDS;
 
-pub const ORDERS: usize = MESSAGES + ROOM * MOST_STRANDS;
+const ORDERS: usize = MESSAGES + ROOM * MOST_STRANDS;
 
-pub const NONS: usize = ORDERS + 4 * MOST_ORDERS;
+const NONS: usize = ORDERS + 4 * MOST_ORDERS;
 
-pub const UNIQS: usize = NONS + MOST_NONS;
+const UNIQS: usize = NONS + MOST_NONS;
 
 const BLOCK_SIZE: usize = UNIQS + MOST_UNIQS;
-
-// A byte as a number that can be a place.
-pub fn wide(b: u8) -> usize
-    ensures { result ≡ b }
-{
-    b as usize
-}

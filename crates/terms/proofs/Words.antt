@@ -4,8 +4,9 @@ use mathlib.Core.Bool.{Bool, true, false, ◌||◌, ◌&&◌, not, or-false, tru
 use mathlib.Core.List.{List, [], ◌∷◌}
 use Prim.Native.Nat.{ℕ, zero, suc, ◌+◌, ◌*◌, ◌/◌, ◌%◌, ◌-◌, ◌^◌, ◌≤◌, ◌<◌}
 use native.Mathlib.Nat.{suc-mul, one-mul, lt_of_not-le}
-use native.Mathlib.Decide.{ℕ_discrete}
+use native.Mathlib.Decide.{ℕ_discrete, dec_lt}
 use native.Mathlib.Omega.{arith}
+use Rattle.std.proofs.Common.{add-one}
 use mir.Syntax.{w64}
 use mir.Val.{Fits}
 use borrow.Author.Tests.{eq-eqb, ne_eqb}
@@ -17,7 +18,7 @@ use lib.Dec.{eqb, lit<}
 use lib.Pow.{shl_exact}
 use Rattle.terms.specs.Set.{bit, member, count}
 use Rattle.terms.proofs.Bits.{bit_none, bit-or, bit-and, bit_not, bit-power, ones_count}
-use Rattle.terms.proofs.Count.{count_none, count_add, count_ext}
+use Rattle.terms.proofs.Count.{count_add, count_ext}
 
 -- numbers of one word are told apart by their bits
 same_word : (k t : ℕ) → k / 64 ≡ t / 64 → eqb (k % 64) (t % 64) ≡ eqb k t
@@ -36,10 +37,10 @@ bit-flag t k =
     ap (λ (w : ℕ). bit w k) (shl_exact 1 (t % 64) 64 (lit< tt) (omega arith) ∙ one-mul _) ∙ bit-power (t % 64) k
 
 -- t's bit is set in t's word
-pub member-with : (ws : List ℕ) (t k : ℕ) → length ws ≡ 4 → t < 256
+pub member-with : (ws : List ℕ) (t k : ℕ) → t < 64 * length ws
     → member (set ws (t / 64) (bit_or (get_or ws (t / 64) 0) (flag t))) k ≡ (member ws k || eqb k t)
 unfolding member
-member-with ws t k len h = go (ℕ_discrete (k / 64) (t / 64))
+member-with ws t k h = go (ℕ_discrete (k / 64) (t / 64))
   where
     go : Dec (k / 64 ≡ t / 64)
         → member (set ws (t / 64) (bit_or (get_or ws (t / 64) 0) (flag t))) k ≡ (member ws k || eqb k t)
@@ -47,51 +48,6 @@ member-with ws t k len h = go (ℕ_discrete (k / 64) (t / 64))
     go (no n) =
         rw (get_or-set_other ws (t / 64) (k / 64) _ 0 n, ne_eqb k t (λ q. n (ap (λ (x : ℕ). x / 64) q)))
         (sym (or-false _))
-
--- ---- two sets, word by word
-
-abbrev pub word_wise : (ℕ → ℕ → ℕ) → List ℕ → List ℕ → List ℕ
-word_wise op xs ys =
-    op (get_or xs 0 0) (get_or ys 0 0)
-    ∷ op (get_or xs 1 0) (get_or ys 1 0)
-    ∷ op (get_or xs 2 0) (get_or ys 2 0)
-    ∷ op (get_or xs 3 0) (get_or ys 3 0)
-    ∷ []
-
-module _ (op : ℕ → ℕ → ℕ) (none : op 0 0 ≡ 0) (xs ys : List ℕ) (hx : length xs ≡ 4) (hy : length ys ≡ 4) where
-  word_at : (i : ℕ) → get_or (word_wise op xs ys) i 0 ≡ op (get_or xs i 0) (get_or ys i 0)
-  word_at zero = refl
-  word_at (suc zero) = refl
-  word_at (suc (suc zero)) = refl
-  word_at (suc (suc (suc zero))) = refl
-  word_at (suc (suc (suc (suc i)))) =
-      let j = suc (suc (suc (suc i))) in
-      rw (get_or-eq_default xs 0 {n = j} (omega arith), get_or-eq_default ys 0 {n = j} (omega arith)) (sym none)
-
-  -- what an operation does to bits, it does to members
-  member_word_wise : (g : Bool → Bool → Bool)
-      → ((i k : ℕ) → k < 64 → bit (op (get_or xs i 0) (get_or ys i 0)) k ≡ g (bit (get_or xs i 0) k) (bit (get_or ys i 0) k))
-      → (k : ℕ)
-      → member (word_wise op xs ys) k ≡ g (member xs k) (member ys k)
-  unfolding member
-  member_word_wise g agree k = rw (word_at (k / 64)) (agree (k / 64) (k % 64) (omega arith))
-
-pub member_union : (xs ys : List ℕ) → length xs ≡ 4 → length ys ≡ 4 → (k : ℕ)
-    → member (word_wise bit_or xs ys) k ≡ (member xs k || member ys k)
-member_union xs ys hx hy = member_word_wise bit_or refl xs ys hx hy ◌||◌ (λ i k l. bit-or _ _ k)
-
-abbrev but_not : ℕ → ℕ → ℕ
-but_not x y = bit_and x ((2 ^ 64 - 1) - y)
-
-pub member-minus : (xs ys : List ℕ) → length xs ≡ 4 → length ys ≡ 4 → ((i : ℕ) → Fits w64 (get_or ys i 0)) → (k : ℕ)
-    → member (word_wise but_not xs ys) k ≡ (member xs k && not (member ys k))
-member-minus xs ys hx hy small =
-    member_word_wise but_not refl xs ys hx hy (λ a b. a && not b)
-    (λ i k l. rw (bit-and (get_or xs i 0) ((2 ^ 64 - 1) - get_or ys i 0) k, bit_not 64 (get_or ys i 0) k (small i).fits l))
-
-pub member-common : (xs ys : List ℕ) → length xs ≡ 4 → length ys ≡ 4 → (k : ℕ)
-    → member (word_wise bit_and xs ys) k ≡ (member xs k && member ys k)
-member-common xs ys hx hy = member_word_wise bit_and refl xs ys hx hy ◌&&◌ (λ i k l. bit-and _ _ k)
 
 -- no word has a bit
 zeros : (i : ℕ) → get_or {A = ℕ} (0 ∷ 0 ∷ 0 ∷ 0 ∷ []) i 0 ≡ 0
@@ -106,17 +62,51 @@ unfolding member
 member_none k = rw (zeros (k / 64)) (bit_none (k % 64))
 
 -- four words hold no number from 256 on
-member_past : (ws : List ℕ) → length ws ≡ 4 → (k : ℕ) → 256 ≤ k → member ws k ≡ false
+pub member_past : (ws : List ℕ) → length ws ≡ 4 → (k : ℕ) → 256 ≤ k → member ws k ≡ false
 unfolding member
 member_past ws len k h = rw (get_or-eq_default ws 0 {n = k / 64} (omega arith)) (bit_none (k % 64))
 
 pub member_small : (ws : List ℕ) → length ws ≡ 4 → (k : ℕ) → member ws k ≡ true → k < 256
 member_small ws len k e = lt_of_not-le (λ h. true≢false (sym e ∙ member_past ws len k h))
 
--- how many bits of the first n words are set
-unfoldable pub ones_of : List ℕ → ℕ → ℕ
-ones_of ws zero = 0
-ones_of ws (suc n) = ones_of ws n + ones (get_or ws n 0)
+-- ---- two sets, word by word
+
+-- the words rs are made by op of the words xs and ys
+pub record MadeBy (op : ℕ → ℕ → ℕ) (xs ys rs : List ℕ) : Type 0 where
+  pub made : (i : ℕ) → i < 4 → get_or rs i 0 ≡ op (get_or xs i 0) (get_or ys i 0)
+
+module _ {op : ℕ → ℕ → ℕ} {xs ys rs : List ℕ} (hx : length xs ≡ 4) (hy : length ys ≡ 4) (hr : length rs ≡ 4)
+    (by : MadeBy op xs ys rs) where
+  -- what an operation does to bits, it does to members
+  made_members : (g : Bool → Bool → Bool) → false ≡ g false false
+      → ((i k : ℕ) → k < 64 → bit (op (get_or xs i 0) (get_or ys i 0)) k ≡ g (bit (get_or xs i 0) k) (bit (get_or ys i 0) k))
+      → (k : ℕ)
+      → member rs k ≡ g (member xs k) (member ys k)
+  unfolding member
+  made_members g none agree k = go (dec_lt (k / 64) 4)
+    where
+      go : Dec (k / 64 < 4) → member rs k ≡ g (member xs k) (member ys k)
+      go (yes l) = ap (λ w. bit w (k % 64)) (by.made (k / 64) l) ∙ agree (k / 64) (k % 64) (omega arith)
+      go (no n) =
+          let h : 256 ≤ k = omega arith in
+          member_past rs hr k h ∙ none ∙ ap₂ g (sym (member_past xs hx k h)) (sym (member_past ys hy k h))
+
+pub members_union : {xs ys rs : List ℕ} → length xs ≡ 4 → length ys ≡ 4 → length rs ≡ 4 → MadeBy bit_or xs ys rs
+    → (k : ℕ) → member rs k ≡ (member xs k || member ys k)
+members_union hx hy hr by = made_members hx hy hr by ◌||◌ refl (λ i k l. bit-or _ _ k)
+
+pub members_common : {xs ys rs : List ℕ} → length xs ≡ 4 → length ys ≡ 4 → length rs ≡ 4 → MadeBy bit_and xs ys rs
+    → (k : ℕ) → member rs k ≡ (member xs k && member ys k)
+members_common hx hy hr by = made_members hx hy hr by ◌&&◌ refl (λ i k l. bit-and _ _ k)
+
+pub members_minus : {xs ys rs : List ℕ} → length xs ≡ 4 → length ys ≡ 4 → length rs ≡ 4
+    → MadeBy (λ x y. bit_and x ((2 ^ 64 - 1) - y)) xs ys rs → ((i : ℕ) → Fits w64 (get_or ys i 0))
+    → (k : ℕ) → member rs k ≡ (member xs k && not (member ys k))
+members_minus {xs} {ys} hx hy hr by small =
+    made_members hx hy hr by (λ a b. a && not b) refl
+    (λ i k l. bit-and (get_or xs i 0) _ k ∙ ap (λ b. bit (get_or xs i 0) k && b) (bit_not (get_or ys i 0) k (small i).fits l))
+
+-- ---- how many
 
 -- the numbers of word n are counted by its bits
 word_count : (ws : List ℕ) (n : ℕ) → get_or ws n 0 < 2 ^ 64
@@ -127,11 +117,10 @@ word_count ws n h =
     (λ k l. ap₂ (λ (i j : ℕ). bit (get_or ws i 0) j) (omega arith) (omega arith))
     ∙ sym (ones_count 64 (get_or ws n 0) h)
 
-pub words_count : (ws : List ℕ) → ((i : ℕ) → Fits w64 (get_or ws i 0)) → (n : ℕ)
-    → count (member ws) (n * 64) ≡ ones_of ws n
-unfolding ones_of
-words_count ws h zero = count_none (member ws)
-words_count ws h (suc n) =
-    ap (count (member ws)) (suc-mul n 64)
+-- a word more is counted
+pub count_word : (ws : List ℕ) (n : ℕ) → get_or ws n 0 < 2 ^ 64
+    → count (member ws) ((n + 1) * 64) ≡ count (member ws) (n * 64) + ones (get_or ws n 0)
+count_word ws n h =
+    ap (count (member ws)) (ap (λ i. i * 64) (add-one n) ∙ suc-mul n 64)
     ∙ count_add (member ws) (n * 64) 64
-    ∙ ap₂ (λ (x y : ℕ). x + y) (words_count ws h n) (word_count ws n (h n).fits)
+    ∙ ap (λ x. count (member ws) (n * 64) + x) (word_count ws n h)

@@ -28,6 +28,11 @@ s ⊆ r = (k : ℕ) → k ∈ s → k ∈ r
 pub record Added (t : ℕ) (so : Bool) (s r : List ℕ) : Type 0 where
   pub at : (k : ℕ) → member r k ≡ (member s k || (so && eqb k t))
 
+-- of the numbers below n, the set has those at which the test answers true, and it has no others
+pub record HasThose (n : ℕ) (Answers : ℕ → Bool → Type 0) (s : TermSet) : Type 0 where
+  pub at : (k : ℕ) → k < n → Answers k (mem s k)
+  pub past : (k : ℕ) → n ≤ k → mem s k ≡ false
+
 -- the set has the numbers of the list
 pub record IsSetOf (l : List ℕ) (s : TermSet) : Type 0 where
   pub at : (k : ℕ) → (k ∈ s) ↔ Memᴰ k l

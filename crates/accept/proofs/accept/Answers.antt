@@ -1,18 +1,44 @@
 -- `accept::accept` meets its contract. Assumes nothing.
+use borrow.Author.Rules.{rules}
+use Rattle.std.proofs.lemmas.Grind.{merely}
+use Rattle.std.proofs.lemmas.Result.{err_from_is_err_and}
+use Rattle.model.specs.Judging.{unread, judged}
+use Rattle.model.specs.Says.{refusal_of}
 use Rattle.theory.specs.Outcome.{read_raw}
-use Rattle.accept.proofs.InTurn.{faulty_read, was_read, accepted_as}
+use Rattle.accept.specs.Held.{Held}
+use Rattle.accept.proofs.InTurn.{held_stored}
 use Rattle.accept.proofs.accept.Goals as goal
 
 pub accept_terms-requires : goal.accept_terms-requires
-accept_terms-requires c =
-    let d = was_read c.read_sheet-reading.ensures c.in-Read.is in
-    (c.read_sheet-reading.ensures.filled, read_raw d, c.requires.1, c.requires.2)
+accept_terms-requires c = (c.in_default.ensures.filled, read_raw c.in_default.ensures.reads)
 
-pub returns-in-Faulty : goal.returns-in-Faulty
-returns-in-Faulty c =
-    faulty_read _ _ _ _ _ c.read_sheet-reading.ensures c.in-Faulty.is
+pub returns-in-Err : goal.returns-in-Err
+unfolding refusal_of
+returns-in-Err c = unread c.in-Err.ensures.reads
 
-pub returns-in-Read : goal.returns-in-Read
-returns-in-Read c =
-    accepted_as _ _ _ (was_read c.read_sheet-reading.ensures c.in-Read.is) c.read_sheet-reading.ensures.filled
-    c.accept_terms.ensures
+pub invariant_of-result : goal.invariant_of-result
+invariant_of-result c =
+    let (accepted, inverted) = c.in_ok-inverses.ensures in
+    let held : Held c.args.bytes.now c.read_sheet.new.table c.in_ok-inverses.inverses.of =
+    record {
+      verdict = judged c.in_default.ensures.reads accepted;
+      filled = c.in_default.ensures.filled;
+      inverted = inverted;
+      inverses_long = search rules;
+    } in
+    record { stored = merely (held_stored held) }
+
+pub returns-in_err-inverses : goal.returns-in_err-inverses
+returns-in_err-inverses c =
+    let p = err_from_is_err_and c.from_residual.result c.from_residual.ensures.1 in
+    rw (p.1, p.2) (judged c.in_default.ensures.reads c.in_err-inverses.ensures)
+
+pub returns : goal.returns
+returns c =
+    let (accepted, inverted) = c.in_ok-inverses.ensures in
+    record {
+      verdict = judged c.in_default.ensures.reads accepted;
+      filled = c.in_default.ensures.filled;
+      inverted = inverted;
+      inverses_long = search rules;
+    }

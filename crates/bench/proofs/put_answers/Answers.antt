@@ -4,8 +4,7 @@ use Rattle.bench.proofs.Telling.{answers_one, answers_two}
 use Rattle.bench.proofs.put_answers.Goals as goal
 
 pub returns-then-skeletons-lt2 : goal.returns-then-skeletons-lt2
-returns-then-skeletons-lt2 c = answers_one c.if-skeletons-lt2.true c.put_skeleton-at.ensures
+returns-then-skeletons-lt2 c = answers_one c.if-skeletons-lt2.true c.put_skeleton.ensures
 
 pub returns : goal.returns
-returns c =
-    answers_two (omega arith) c.put_skeleton-at.ensures c.put_skeleton-at-2.ensures c.put_list.ensures
+returns c = answers_two (omega arith) c.put_skeleton.ensures c.put_skeleton-2.ensures c.put_list.ensures

@@ -4,6 +4,4 @@ use Rattle.bench.proofs.MapLines.{part_line}
 use Rattle.bench.proofs.put_map.Goals as goal
 
 pub returns : goal.returns
-returns c =
-    let a = c.args in
-    part_line a.space.now a.from a.n (omega arith) c.map_line.ensures
+returns c = part_line c.args.space.now c.args.from c.args.n (omega arith) c.map_line.ensures

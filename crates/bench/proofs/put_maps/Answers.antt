@@ -6,7 +6,7 @@ use Rattle.bench.proofs.MapLines.{maps_none, maps_more, piece}
 use Rattle.bench.proofs.put_maps.Goals as goal
 
 pub loop-k-init : goal.loop-k-init
-loop-k-init c = (omega arith, omega arith, maps_none (omega arith))
+loop-k-init c = maps_none (omega arith)
 
 pub overflow_mul-k : goal.overflow_mul-k
 overflow_mul-k c =
@@ -14,21 +14,18 @@ overflow_mul-k c =
     let p = piece c.loop-k.k a.count a.n (omega arith) in
     omega arith
 
-pub put_map-next-requires : goal.put_map-next-requires
-put_map-next-requires c =
+pub put_map-requires : goal.put_map-requires
+put_map-requires c =
     let a = c.args in
     let k = c.loop-k.k in
     let p = piece k a.count a.n (omega arith) in
     let q = piece k a.count (4 * a.n + 1) (omega arith) in
-    (omega arith, omega arith)
+    (omega arith, omega (arith, c.loop-k.invariant.short))
 
 pub loop-k-preserved : goal.loop-k-preserved
-loop-k-preserved c =
-    let more = maps_more c.loop-k.invariant.2 c.put_map-next.ensures in
-    (omega arith, omega arith, more)
+loop-k-preserved c = maps_more c.loop-k.invariant c.put_map.ensures
 
 pub returns : goal.returns
 returns c =
-    let a = c.args in
-    let e : c.loop-k.k ≡ a.count = omega arith in
-    rw e at c.loop-k.invariant.2.put
+    let e : c.loop-k.k ≡ c.args.count = omega arith in
+    rw e at c.loop-k.invariant.put

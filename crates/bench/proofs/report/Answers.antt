@@ -1,13 +1,14 @@
 -- `bench::report` meets its contract. Assumes nothing.
 use borrow.Author.Rules.{rules}
-use Rattle.bench.proofs.Telling.{reported_bad, reported_good}
+use Rattle.bench.proofs.Telling.{refused_then, reported_bad, reported_good}
 use Rattle.bench.proofs.report.Goals as goal
 
-pub returns-in-Refused : goal.returns-in-Refused
-returns-in-Refused c =
-    reported_bad _ (search rules) c.in-Refused.is c.sheet-answer.ensures.0 c.sheet_line-at.ensures
+pub returns-in_default : goal.returns-in_default
+returns-in_default c =
+    let (r, e) = refused_then _ c.in_default.not-Ok in
+    reported_bad r (search rules) e c.sheet-answer.ensures.0 (rw c.requires at c.sheet_line.ensures)
 
-pub returns-in-Good : goal.returns-in-Good
-returns-in-Good c =
-    reported_good _ _ (search rules) c.in-Good.is c.sheet-answer.ensures.0
-    c.sheet_line-at.ensures c.put_answers.ensures
+pub returns : goal.returns
+returns c =
+    let at_start = rw c.requires at c.sheet_line.ensures in
+    reported_good _ (search rules) c.in-Ok.is c.sheet-answer.ensures.0 at_start c.put_answers.ensures

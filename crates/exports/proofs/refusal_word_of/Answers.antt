@@ -1,7 +1,8 @@
 -- `exports::refusal_word_of` meets its contract. Assumes nothing.
+use Rattle.std.proofs.Common.{rules}
 use Rattle.model.specs.Says.{refusal_of}
 use Rattle.exports.proofs.refusal_word_of.Goals as goal
 
 pub returns : goal.returns
 unfolding refusal_of
-returns c = c.word_of.ensures
+returns c = search rules

@@ -1,25 +1,20 @@
 -- `judge::list` meets its contract. Assumes nothing.
-use borrow.Author.Rules.{rules}
+use Rattle.model.specs.Answers.{AskList}
 use Rattle.model.specs.Says.{list_says}
-use Rattle.accept.proofs.InTurn.{held_stored}
+use Rattle.theory.proofs.Sizes.{list_low}
 use Rattle.mapping.proofs.Reading.{verdict_within}
-use Rattle.judge.proofs.Answered.{was_good, refused_small, gives_held, list_refused, list_small}
+use Rattle.judge.proofs.Answered.{refuses, answers}
 use Rattle.judge.proofs.list.Goals as goal
 
 pub list-requires : goal.list-requires
-list-requires c =
-    let h = was_good c.accept-accepted.ensures c.in-Good.is in
-    (held_stored h, verdict_within h.verdict, search rules)
+list-requires c = verdict_within c.in_ok-sheet.ensures.verdict
 
-pub returns-in-Refused : goal.returns-in-Refused
+pub returns-in_err-sheet : goal.returns-in_err-sheet
+unfolding AskList list_says
+returns-in_err-sheet c = refuses (λ n. n) _ _ c.in_err-sheet.ensures c.from_residual.result c.from_residual.ensures.1
+
+pub returns : goal.returns
 unfolding list_says
-returns-in-Refused c =
-    let a = c.accept-accepted.ensures in
-    let e = c.in-Refused.is in
-    (list_refused _ _ _ _ a e, refused_small _ a e)
-
-pub returns-in-Good : goal.returns-in-Good
-returns-in-Good c =
-    let h = was_good c.accept-accepted.ensures c.in-Good.is in
-    let g = gives_held _ h c.list.ensures.0 in
-    (g, list_small _ _ _ _ g)
+returns c =
+    answers (λ n. n) _ (λ a l g. list_low _ _ _ g) (λ n l. l)
+    c.in_ok-sheet.ensures c.list.result c.list.ensures.0

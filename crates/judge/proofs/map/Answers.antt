@@ -1,25 +1,20 @@
 -- `judge::map` meets its contract. Assumes nothing.
-use borrow.Author.Rules.{rules}
-use Rattle.model.specs.Says.{map_says}
-use Rattle.accept.proofs.InTurn.{held_stored}
+use Rattle.model.specs.Answers.{AskMap}
+use Rattle.model.specs.Says.{mapping_of, map_says}
+use Rattle.theory.proofs.Sizes.{map_low}
 use Rattle.mapping.proofs.Reading.{atoms_listed}
-use Rattle.judge.proofs.Answered.{was_good, refused_small, gives_held, map_refused, map_small}
+use Rattle.judge.proofs.Answered.{refuses, answers, mapping_small}
 use Rattle.judge.proofs.map.Goals as goal
 
 pub map-requires : goal.map-requires
-map-requires c =
-    let h = was_good c.accept-accepted.ensures c.in-Good.is in
-    (held_stored h, atoms_listed h.verdict, search rules)
+map-requires c = atoms_listed c.in_ok-sheet.ensures.verdict
 
-pub returns-in-Refused : goal.returns-in-Refused
+pub returns-in_err-sheet : goal.returns-in_err-sheet
+unfolding AskMap map_says
+returns-in_err-sheet c = refuses mapping_of _ _ c.in_err-sheet.ensures c.from_residual.result c.from_residual.ensures.1
+
+pub returns : goal.returns
 unfolding map_says
-returns-in-Refused c =
-    let a = c.accept-accepted.ensures in
-    let e = c.in-Refused.is in
-    (map_refused _ _ _ _ _ a e, refused_small _ a e)
-
-pub returns-in-Good : goal.returns-in-Good
-returns-in-Good c =
-    let h = was_good c.accept-accepted.ensures c.in-Good.is in
-    let g = gives_held _ h c.map.ensures in
-    (g, map_small _ _ _ _ _ g)
+returns c =
+    answers mapping_of _ (λ a l g. map_low _ _ _ _ g) mapping_small
+    c.in_ok-sheet.ensures c.map.result c.map.ensures

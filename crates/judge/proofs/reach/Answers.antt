@@ -1,23 +1,16 @@
 -- `judge::reach` meets its contract. Assumes nothing.
-use borrow.Author.Rules.{rules}
+use Rattle.model.specs.Answers.{AskReach}
 use Rattle.model.specs.Says.{reach_says}
-use Rattle.accept.proofs.InTurn.{held_stored}
-use Rattle.judge.proofs.Answered.{was_good, refused_small, gives_held, reach_refused, reach_small}
+use Rattle.theory.proofs.Sizes.{reach_low}
+use Rattle.judge.proofs.Answered.{refuses, answers}
 use Rattle.judge.proofs.reach.Goals as goal
 
-pub reach-requires : goal.reach-requires
-reach-requires c =
-    (held_stored (was_good c.accept-accepted.ensures c.in-Good.is), search rules)
+pub returns-in_err-sheet : goal.returns-in_err-sheet
+unfolding AskReach reach_says
+returns-in_err-sheet c = refuses (λ n. n) _ _ c.in_err-sheet.ensures c.from_residual.result c.from_residual.ensures.1
 
-pub returns-in-Refused : goal.returns-in-Refused
+pub returns : goal.returns
 unfolding reach_says
-returns-in-Refused c =
-    let a = c.accept-accepted.ensures in
-    let e = c.in-Refused.is in
-    (reach_refused _ _ _ a e, refused_small _ a e)
-
-pub returns-in-Good : goal.returns-in-Good
-returns-in-Good c =
-    let h = was_good c.accept-accepted.ensures c.in-Good.is in
-    let g = gives_held _ h c.reach.ensures in
-    (g, reach_small _ _ _ g)
+returns c =
+    answers (λ n. n) _ (λ a l g. reach_low _ _ g) (λ n l. l)
+    c.in_ok-sheet.ensures c.reach.result c.reach.ensures

@@ -1,19 +1,18 @@
 -- `judge::sheet` meets its contract. Assumes nothing.
-use Rattle.model.specs.declared.SheetAnswer.{SheetAnswer}
-use Rattle.model.specs.Says.{sheet_says}
-use Rattle.judge.proofs.Answered.{was_good, refused_small, sheet_refused, sheet_counts, sheet_small}
+use Rattle.std.specs.Prelude.{Ok}
+use Rattle.std.proofs.Common.{rules}
+use Rattle.model.specs.Answers.{AskSheet}
+use Rattle.model.specs.Says.{counts_of, sheet_says}
+use Rattle.theory.proofs.Sizes.{sheet_low}
+use Rattle.judge.proofs.Answered.{refuses, answers, sheet_counts, counts_small}
 use Rattle.judge.proofs.sheet.Goals as goal
 
-pub returns-in-Refused : goal.returns-in-Refused
-unfolding sheet_says
-returns-in-Refused c =
-    let a = c.accept-accepted.ensures in
-    let e = c.in-Refused.is in
-    (sheet_refused _ a e, refused_small _ a e)
+pub returns-in_err-sheet : goal.returns-in_err-sheet
+unfolding AskSheet sheet_says
+returns-in_err-sheet c = refuses counts_of _ _ c.in_err-sheet.ensures c.from_residual.result c.from_residual.ensures.1
 
-pub returns-in-Good : goal.returns-in-Good
+pub returns : goal.returns
 unfolding sheet_says
-returns-in-Good c =
-    let h = was_good c.accept-accepted.ensures c.in-Good.is in
-    let g = sheet_counts _ _ h c.wide.ensures c.wide-in-Good.ensures in
-    (g, sheet_small (SheetAnswer.Good _ _) g)
+returns c =
+    answers counts_of _ (λ a l g. sheet_low g) counts_small
+    c.in_ok-sheet.ensures (Ok _) (sheet_counts _ _ _ (search rules) (search rules))

@@ -1,19 +1,17 @@
--- `lines::maps_line` meets its contract: what it puts into the buffer, one after the other, is the line. Assumes nothing.
+-- `lines::maps_line` meets its contract: what it puts on the page, one after the other, is the line. Assumes nothing.
 use native.Mathlib.Omega.{arith}
 use Rattle.model.specs.Lines.{ascii, maps_line}
 use Rattle.model.specs.Says.{list_says, refusal_of}
 use Rattle.lines.proofs.Puts.{line_of_three}
 use Rattle.lines.proofs.maps_line.Goals as goal
 
-pub returns-in-Maps : goal.returns-in-Maps
+pub returns-in-Ok : goal.returns-in-Ok
 unfolding ascii maps_line list_says
-returns-in-Maps c =
-    rw c.in-Maps.is
-    (line_of_three c.put_small-at.ensures c.put_small-at-2.ensures c.put_large-at.ensures c.put_text.ensures (omega arith))
+returns-in-Ok c =
+    rw c.in-Ok.is (line_of_three c.put_small.ensures c.put_small-2.ensures c.put_large.ensures c.put.ensures (omega arith))
 
-pub returns-in-Refused : goal.returns-in-Refused
+pub returns-in-Err : goal.returns-in-Err
 unfolding ascii maps_line list_says refusal_of
-returns-in-Refused c =
-    rw c.in-Refused.is
-    (line_of_three c.put_small-at.ensures c.put_small-at-2.ensures c.put_small-at-in-Refused.ensures
-    c.put_text-in-Refused.ensures (omega arith))
+returns-in-Err c =
+    rw (c.in-Err.is, ← c.from.ensures)
+    (line_of_three c.put_small.ensures c.put_small-2.ensures c.put_small-in-Err.ensures c.put-in-Err.ensures (omega arith))

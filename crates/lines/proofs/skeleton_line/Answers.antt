@@ -1,25 +1,28 @@
--- `lines::skeleton_line` meets its contract: what it puts into the buffer, one after the other, is the line. Assumes nothing.
+-- `lines::skeleton_line` meets its contract: what it puts on the page, one after the other, is the line. Assumes nothing.
+use Rattle.std.proofs.Common.{◌≡◌, None, Some}
 use borrow.Author.Rules.{rules}
 use native.Mathlib.Omega.{arith}
 use Rattle.model.specs.Lines.{ascii, skeleton_line}
-use Rattle.model.specs.Says.{realized_says, node_of}
+use Rattle.model.specs.Says.{realized_says, openness_of, node_of}
 use Rattle.lines.specs.Written.{told_line}
 use Rattle.lines.proofs.Puts.{put_none, put_after, line_of_three}
 use Rattle.lines.proofs.skeleton_line.Goals as goal
 
-pub returns-in-Realized : goal.returns-in-Realized
-unfolding ascii skeleton_line told_line realized_says
-returns-in-Realized c =
-    rw c.in-Realized.is
-    (record { put = put_after c.put_small-at.ensures.put c.put_text.ensures; short = omega arith })
+pub returns-in-Ok-None : goal.returns-in-Ok-None
+unfolding ascii skeleton_line told_line realized_says openness_of
+returns-in-Ok-None c =
+    let e : c.in-Ok-None.field-0 ≡ None = rw c.in-Ok-None.is at c.in-Ok-None.field-0-is in
+    rw (c.in-Ok-None.is, e)
+    (record { put = put_after c.put_small.ensures.put c.put.ensures; short = omega arith })
 
-pub returns-in-Open : goal.returns-in-Open
-unfolding ascii skeleton_line told_line realized_says node_of
-returns-in-Open c =
-    rw c.in-Open.is
-    (line_of_three c.put_small-at-in-Open.ensures c.put_small-at-in-Open-2.ensures c.put_small-at-in-Open-3.ensures
-    c.put_text-in-Open.ensures (omega arith))
+pub returns-in-Ok-Some : goal.returns-in-Ok-Some
+unfolding ascii skeleton_line told_line realized_says openness_of node_of
+returns-in-Ok-Some c =
+    let e : c.in-Ok-Some.field-0 ≡ Some c.in-Ok-Some.node = rw c.in-Ok-Some.is at c.in-Ok-Some.field-0-is in
+    rw (c.in-Ok-Some.is, e)
+    (line_of_three c.put_small-in-Ok-Some.ensures c.put_small-in-Ok-Some-2.ensures c.put_small-in-Ok-Some-3.ensures
+    c.put-in-Ok-Some.ensures (omega arith))
 
-pub returns-in-Refused : goal.returns-in-Refused
+pub returns-in-Err : goal.returns-in-Err
 unfolding told_line realized_says
-returns-in-Refused c = rw c.in-Refused.is (record { put = put_none (search rules); short = omega arith })
+returns-in-Err c = rw c.in-Err.is (record { put = put_none (search rules); short = omega arith })

@@ -1,7 +1,7 @@
 -- `listing::write_list` meets its contract. Assumes nothing.
+use mathlib.Core.Path.{refl}
 use Prim.Native.Nat.{◌*◌, ◌≤◌}
 use native.Mathlib.Omega.{arith}
-use lib.ListN.{length}
 use borrow.Author.Rules.{rules}
 use Rattle.model.specs.Says.{list_says}
 use Rattle.listing.proofs.Giving.{few_bytes, no_room, all_given}
@@ -9,26 +9,31 @@ use Rattle.listing.proofs.write_list.Goals as goal
 
 pub overflow_mul-count : goal.overflow_mul-count
 overflow_mul-count c =
-    let n = c.requires.3 in
-    let few = few_bytes _ _ _ c.count_marked-count.ensures.upper_bound c.power-total.ensures.1 n in
-    search rules
+    let few : c.count-count.result * c.args.candidates.n ≤ 279936 =
+    few_bytes _ _ _ c.count-count.ensures.upper_bound c.total-total.ensures.1 c.args.candidates.few.2 in
+    rw c.from.ensures (search rules)
 
 pub returns-then-space-count : goal.returns-then-space-count
+unfolding list_says
 returns-then-space-count c =
-    let counted = c.count_marked-count.ensures.by_index c.args.n c.args.base in
-    (no_room (rw c.power-total.ensures.0 at counted) (search rules) c.refuse.ensures.0, c.refuse.ensures.1)
+    let counted = c.count-count.ensures.by_index c.args.candidates.n c.args.candidates.base in (
+      no_room (rw c.total-total.ensures.0 at counted) (rw c.from.ensures at c.if-space-count.true)
+          (rw c.from-then-space-count.ensures refl),
+      tt,
+    )
 
-pub write_marked-requires : goal.write_marked-requires
-write_marked-requires c =
-    let counted = c.count_marked-count.ensures.by_index c.args.n c.args.base in
-    let fits : c.count_marked-count.result * c.args.n ≤ length c.args.space.now = search rules in
-    (c.requires.0, c.requires.1, c.requires.2, c.requires.3, search rules, rw counted at fits)
+pub write-requires : goal.write-requires
+write-requires c =
+    let counted = c.count-count.ensures.by_index c.args.candidates.n c.args.candidates.base in
+    let fits = rw c.from.ensures at c.if-space-count.false in
+    (omega (arith, c.total-total.ensures.0), rw counted at fits)
 
 pub returns : goal.returns
 unfolding list_says
 returns c =
-    let power = c.power-total.ensures.0 in
-    let counted = c.count_marked-count.ensures.by_index c.args.n c.args.base in
-    let most : c.count_marked-count.result ≤ 46656 =
-    omega (arith, c.count_marked-count.ensures.upper_bound, c.power-total.ensures.1) in
-    (all_given (rw power at counted) (search rules) (rw power at c.write_marked.ensures), most)
+    let power = c.total-total.ensures.0 in
+    let counted = c.count-count.ensures.by_index c.args.candidates.n c.args.candidates.base in
+    let fits = rw c.from.ensures at c.if-space-count.false in (
+      all_given (rw power at counted) fits (rw power at c.write.ensures),
+      omega (arith, c.count-count.ensures.upper_bound, c.total-total.ensures.1),
+    )

@@ -4,4 +4,4 @@ use Rattle.maps.proofs.moved.Goals as goal
 
 pub returns : goal.returns
 unfolding node_of
-returns c = rw c.wide.ensures
+returns c = rw c.from.ensures

@@ -1,25 +1,13 @@
 -- `maps::rule_five` meets its contract. Assumes nothing.
-use Prim.Native.Nat.{◌<◌}
-use borrow.Author.Rules.{rules}
-use Rattle.tables.specs.Layout.{term_count}
-use Rattle.tables.specs.Tables.{byte}
-use Rattle.maps.proofs.Sending.{none_below, more_below, all_yes, all_no, judged_five}
+use Rattle.std.proofs.Common.{rules}
+use Rattle.tables.specs.Tables.{rows_in}
+use Rattle.maps.specs.Atoms.{GoesIn}
+use Rattle.maps.proofs.Sending.{found_all, goes_on, in_on, judged_five}
 use Rattle.maps.proofs.rule_five.Goals as goal
-
-pub loop-a-init : goal.loop-a-init
-loop-a-init c = (search rules, none_below)
-
-pub returns-then-not-goes_in : goal.returns-then-not-goes_in
-returns-then-not-goes_in c =
-    let a = c.loop-a.a in
-    let low : a < byte c.args.table.now term_count = search rules in
-    judged_five c.requires.0 (all_no {i = a} low c.goes_in.ensures c.if-not-goes_in.true)
-
-pub loop-a-preserved : goal.loop-a-preserved
-loop-a-preserved c =
-    let so_far = c.loop-a.invariant.1 in
-    (search rules, more_below so_far c.goes_in.ensures c.if-not-goes_in.false)
 
 pub returns : goal.returns
 returns c =
-    judged_five c.requires.0 (all_yes c.loop-a-test.false c.loop-a.invariant.1)
+    let ready = c.args.images.sheet.ready in
+    judged_five ready.filled ready.good
+    (found_all _ _ _ _ _ (GoesIn (rows_in c.args.images.sheet.table.now) c.args.to) (λ σ a w. in_on w)
+    (λ σ a i r m h means q. goes_on ready.good σ a i.0 h means c.args.to (search rules)) c.all.ensures)

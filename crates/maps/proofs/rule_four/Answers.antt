@@ -1,53 +1,52 @@
 -- `maps::rule_four` meets its contract. Assumes nothing.
-use Prim.Native.Nat.{◌+◌, ◌*◌, ◌<◌}
-use borrow.Author.Count.{below_none, below_more}
-use borrow.Author.Rules.{rules}
+use Rattle.std.proofs.Common.{arith, below_more}
 use Rattle.theory.specs.Tests.{was_no}
-use Rattle.tables.specs.Layout.{order_count, orders}
-use Rattle.tables.specs.Tables.{byte}
 use Rattle.maps.proofs.Answers.{granted, refused}
-use Rattle.maps.proofs.Keeping.{End, pair_told, first_end, second_end, pairs_kept, pair_kept}
+use Rattle.maps.proofs.Keeping.{pair_ends, pair_told, pairs_kept, pair_kept}
 use Rattle.maps.proofs.rule_four.Goals as goal
 
-pub loop-i-init : goal.loop-i-init
-loop-i-init c = (search rules, below_none _)
+pub moved-requires : goal.moved-requires
+moved-requires c =
+    let s = c.args.sides in
+    let ends = pair_ends s.table.now s.source s.target c.args.map.now s.drawn.0 s.drawn.1 c.requires.kept_to2.strands c.from-from.ensures
+    c.order_count-i-end.ensures.0 c.loop-i-test.true c.pair.ensures.send c.pair.ensures.reception in
+    omega (arith, ends.first, ends.second)
 
-pub pair_kept-requires : goal.pair_kept-requires
-pair_kept-requires c =
-    let a = c.args in
-    let i = c.loop-i.i in
-    let here : i < byte a.table.now (a.source + order_count) = search rules in
-    let first : End a.table.now a.map.now (a.source + orders + 4 * i) =
-    first_end _ _ _ _ c.requires.kept_to2.strands c.requires.drawn.0 c.requires.drawn.1 i here in
-    let second : End a.table.now a.map.now (a.source + orders + 4 * i + 2) =
-    second_end _ _ _ _ c.requires.kept_to2.strands c.requires.drawn.0 c.requires.drawn.1 i here in
-    record { at_in_bounds = (search rules, search rules); at_in_bounds_2 = (first.strand, second.strand, first.low, second.low) }
+pub moved-requires-in-loop-i : goal.moved-requires-in-loop-i
+moved-requires-in-loop-i c =
+    let s = c.args.sides in
+    let ends = pair_ends s.table.now s.source s.target c.args.map.now s.drawn.0 s.drawn.1 c.requires.kept_to2.strands c.from-from.ensures
+    c.order_count-i-end.ensures.0 c.loop-i-test.true c.pair.ensures.send c.pair.ensures.reception in
+    omega (arith, ends.first, ends.second)
 
-pub returns-then-not-pair_kept : goal.returns-then-not-pair_kept
-returns-then-not-pair_kept c =
-    let a = c.args in
-    let i = c.loop-i.i in
-    let here : i < byte a.table.now (a.source + order_count) = search rules in
-    let first : End a.table.now a.map.now (a.source + orders + 4 * i) =
-    first_end _ _ _ _ c.requires.kept_to2.strands c.requires.drawn.0 c.requires.drawn.1 i here in
-    let second : End a.table.now a.map.now (a.source + orders + 4 * i + 2) =
-    second_end _ _ _ _ c.requires.kept_to2.strands c.requires.drawn.0 c.requires.drawn.1 i here in
-    let told = pair_told c.pair_kept.ensures c.requires.before_len.1 first.low second.low in
-    refused (λ four. was_no told c.if-not-pair_kept.true (pair_kept _ _ _ a.map.now four i here))
+pub is_before-requires : goal.is_before-requires
+is_before-requires c =
+    let s = c.args.sides in
+    let ends = pair_ends s.table.now s.source s.target c.args.map.now s.drawn.0 s.drawn.1 c.requires.kept_to2.strands c.from-from.ensures
+    c.order_count-i-end.ensures.0 c.loop-i-test.true c.pair.ensures.send c.pair.ensures.reception in
+    rw (c.moved.ensures, c.moved-in-loop-i.ensures) (search (ends.first_low, ends.second_low))
+
+pub returns-then-not-is_before : goal.returns-then-not-is_before
+returns-then-not-is_before c =
+    let s = c.args.sides in
+    let ends = pair_ends s.table.now s.source s.target c.args.map.now s.drawn.0 s.drawn.1 c.requires.kept_to2.strands c.from-from.ensures
+    c.order_count-i-end.ensures.0 c.loop-i-test.true c.pair.ensures.send c.pair.ensures.reception in
+    let answer = rw (c.moved.ensures, c.moved-in-loop-i.ensures) at c.is_before.ensures in
+    let told = rw (ends.first_goes, ends.second_goes) at (pair_told answer c.requires.shows (search (ends.first_low, ends.second_low)) (search (ends.first_low, ends.second_low))) in
+    refused (λ four. was_no told c.if-not-is_before.true (search (pair_kept s.table.now s.source s.target c.args.map.now four c.loop-i.i ends.here)))
 
 pub loop-i-preserved : goal.loop-i-preserved
 loop-i-preserved c =
-    let a = c.args in
-    let i = c.loop-i.i in
-    let here : i < byte a.table.now (a.source + order_count) = search rules in
-    let first : End a.table.now a.map.now (a.source + orders + 4 * i) =
-    first_end _ _ _ _ c.requires.kept_to2.strands c.requires.drawn.0 c.requires.drawn.1 i here in
-    let second : End a.table.now a.map.now (a.source + orders + 4 * i + 2) =
-    second_end _ _ _ _ c.requires.kept_to2.strands c.requires.drawn.0 c.requires.drawn.1 i here in
-    let told = pair_told c.pair_kept.ensures c.requires.before_len.1 first.low second.low in
-    (search rules, below_more _ _ c.loop-i.invariant.1 (told.0 c.if-not-pair_kept.false))
+    let s = c.args.sides in
+    let ends = pair_ends s.table.now s.source s.target c.args.map.now s.drawn.0 s.drawn.1 c.requires.kept_to2.strands c.from-from.ensures
+    c.order_count-i-end.ensures.0 c.loop-i-test.true c.pair.ensures.send c.pair.ensures.reception in
+    let answer = rw (c.moved.ensures, c.moved-in-loop-i.ensures) at c.is_before.ensures in
+    let told = rw (ends.first_goes, ends.second_goes) at (pair_told answer c.requires.shows (search (ends.first_low, ends.second_low)) (search (ends.first_low, ends.second_low))) in
+    below_more _ _ c.loop-i.invariant (search told.0)
 
 pub returns : goal.returns
 returns c =
-    granted (pairs_kept _ _ _ c.args.map.now c.requires.kept_to2.directions
-    (λ k h. c.loop-i.invariant.1 k (search rules)))
+    let s = c.args.sides in
+    let count = rw (c.from-from.ensures.0, c.from-from.ensures.1) at c.order_count-i-end.ensures.0 in
+    granted (pairs_kept s.table.now s.source s.target c.args.map.now c.requires.kept_to2.directions
+    (λ k h. c.loop-i.invariant k (omega arith)))

@@ -1,8 +1,6 @@
-use Prim.Native.Nat.{ℕ, ◌+◌, ◌≤◌, ◌<◌}
-use Rattle.tables.specs.Layout.{order_count}
-use Rattle.tables.specs.Tables.{byte}
+use Rattle.std.proofs.Common.{ℕ, ◌<◌}
 use Rattle.maps.proofs.Keeping.{PairKept}
 use Rattle.maps.proofs.rule_four.Given as goal
 
 abbrev pub invariant-loop-i : goal.invariant-loop-i
-invariant-loop-i l = (l.i ≤ byte l.table (l.source + order_count)) × ((k : ℕ) → k < l.i → PairKept l.table l.source l.target l.map k)
+invariant-loop-i l = (k : ℕ) → k < l.i → PairKept l.sides.table.now l.sides.source l.sides.target l.map k

@@ -1,28 +1,25 @@
 -- `maps::rule_six` meets its contract. Assumes nothing.
-use Prim.Native.Nat.{◌<◌}
-use borrow.Author.Rules.{rules}
-use Rattle.tables.specs.Layout.{term_count}
-use Rattle.tables.specs.Tables.{byte, rows_in}
+use Rattle.std.proofs.Common.{◌<◌, arith, rules}
+use Rattle.tables.specs.Tables.{rows_in}
 use Rattle.maps.specs.Atoms.{OriginGoes}
-use Rattle.maps.proofs.Sending.{none_below, more_below, all_yes, all_no, judged_six}
+use Rattle.maps.proofs.Sending.{found_all, origin_on, moved_on, judged_six}
 use Rattle.maps.proofs.rule_six.Goals as goal
 
-pub loop-a-init : goal.loop-a-init
-loop-a-init c = (search rules, none_below)
-
-pub returns-then-not-origin_goes : goal.returns-then-not-origin_goes
-returns-then-not-origin_goes c =
-    let a = c.loop-a.a in
-    let low : a < byte c.args.table.now term_count = search rules in
-    let s = c.args in
-    let goes = OriginGoes (rows_in s.table.now) s.to s.map.now s.source_origins.now s.target_origins.now in
-    judged_six c.requires.0 (all_no {P = goes} low c.origin_goes.ensures c.if-not-origin_goes.true)
-
-pub loop-a-preserved : goal.loop-a-preserved
-loop-a-preserved c =
-    let so_far = c.loop-a.invariant.1 in
-    (search rules, more_below so_far c.origin_goes.ensures c.if-not-origin_goes.false)
+pub all-requires : goal.all-requires
+all-requires c = λ a i h l m.
+    let most = c.args.images.sheet.ready.filled.terms in
+    let a_low : a < 200 = omega arith in
+    let i_low : i < 200 = omega arith in
+    let starts = c.requires.strand a m in
+    search rules
 
 pub returns : goal.returns
 returns c =
-    judged_six c.requires.0 (all_yes c.loop-a-test.false c.loop-a.invariant.1)
+    let ready = c.args.images.sheet.ready in
+    let to = c.args.to in
+    let map = c.args.map.now in
+    let origins = c.args.from.origins.now in
+    let targets = to.origins.now in
+    judged_six ready.filled ready.good
+    (found_all _ _ _ _ _ (OriginGoes (rows_in c.args.images.sheet.table.now) to.atoms map origins targets) (λ σ a w. moved_on w)
+    (λ σ a i r m h means q. origin_on ready.good σ a i.0 h means to.atoms map origins targets (search rules)) c.all.ensures)

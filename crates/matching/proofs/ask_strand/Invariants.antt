@@ -1,8 +1,12 @@
-use Prim.Native.Nat.{◌≤◌}
-use Rattle.matching.specs.Pass.{demands, gather, one_wish}
+use Rattle.std.proofs.Common.{◌+◌, ◌*◌}
+use Rattle.tables.specs.Layout.{messages}
+use Rattle.matching.specs.Pass.{demands, one_wish, strand_wishes}
 use Rattle.matching.proofs.Outcomes.{ToDemand}
 use Rattle.matching.proofs.ask_strand.Given as goal
 
-abbrev pub invariant-loop-i : goal.invariant-loop-i
-invariant-loop-i l = (l.i ≤ l.height)
-    × ToDemand (one_wish l.table l.from l.to) l.height l.i l.images (demands (gather (one_wish l.table l.from l.to) 0 l.height) l.initial.images)
+abbrev pub invariant-loop-position : goal.invariant-loop-position
+invariant-loop-position l =
+    let t = l.sides.table.now in
+    let wish = one_wish t (l.sides.source + messages + 16 * l.s.0) (l.sides.target + messages + 16 * l.u.0) in
+    ToDemand wish l.position-end l.position l.images
+    (demands (strand_wishes t l.sides.source l.sides.target l.s.0 l.u.0) l.initial.images)

@@ -1,20 +1,23 @@
 -- `matching::may_be` meets its contract. Assumes nothing.
-use borrow.Author.Tests.{ne_eqb}
+use Rattle.std.proofs.Common.{arith}
+use Rattle.std.proofs.lemmas.Bool.Decides.{nat_tests}
 use Rattle.matching.specs.Pass.{may_be}
+use Rattle.matching.proofs.Codes.{may_be_own}
 use Rattle.matching.proofs.may_be.Goals as goal
 
-pub returns-in-1 : goal.returns-in-1
+pub returns-in-Mesg : goal.returns-in-Mesg
 unfolding may_be
-returns-in-1 c = simp c.in-1.is
+returns-in-Mesg c = rw c.in-Mesg.is
 
-pub returns-in-5 : goal.returns-in-5
+pub returns-in-Skey : goal.returns-in-Skey
 unfolding may_be
-returns-in-5 c = simp c.in-5.is
+returns-in-Skey c = rw (c.in-Skey.is, c.is.ensures, c.is-in-Skey.ensures)
 
-pub returns-in-6 : goal.returns-in-6
+pub returns-in-Akey : goal.returns-in-Akey
 unfolding may_be
-returns-in-6 c = simp c.in-6.is
+returns-in-Akey c =
+    rw (c.in-Akey.is, c.is-in-Akey.ensures, c.is-in-Akey-2.ensures, c.is-in-Akey-3.ensures) (grind (arith, nat_tests))
 
 pub returns-in_default : goal.returns-in_default
-unfolding may_be
-returns-in_default c = simp (ne_eqb _ _ c.in_default.in_default-own.rest.1, ne_eqb _ _ c.in_default.in_default-own.rest.0.1, ne_eqb _ _ c.in_default.in_default-own.rest.0.0.1)
+returns-in_default c =
+    rw c.is-in_default.ensures (may_be_own c.args.k _ c.in_default.not-Mesg c.in_default.not-Skey c.in_default.not-Akey)

@@ -8,12 +8,12 @@ returns-in_default c = none_at_all (rw c.in_default.is at c.next_origin.ensures)
 
 pub overflow_add-node : goal.overflow_add-node
 overflow_add-node c =
-    let low = origin_low c.requires.block (rw c.in-Here.is at c.next_origin.ensures) in search rules
+    let low = origin_low c.args.skeleton.drawn.block (rw c.in-Some.is at c.next_origin.ensures) in search rules
 
-pub returns-in-Nowhere : goal.returns-in-Nowhere
-returns-in-Nowhere c =
-    one_alone (rw c.in-Here.is at c.next_origin.ensures) (rw c.in-Nowhere.is at c.next_origin-2.ensures)
+pub returns-in-None : goal.returns-in-None
+returns-in-None c =
+    one_alone (rw c.in-Some.is at c.next_origin.ensures) (rw c.in-None.is at c.next_origin-2.ensures)
 
-pub returns-in-Here-next_origin : goal.returns-in-Here-next_origin
-returns-in-Here-next_origin c =
-    two_apart (rw c.in-Here.is at c.next_origin.ensures) (rw c.in-Here-next_origin.is at c.next_origin-2.ensures)
+pub returns-in-Some-next_origin : goal.returns-in-Some-next_origin
+returns-in-Some-next_origin c =
+    two_apart (rw c.in-Some.is at c.next_origin.ensures) (rw c.in-Some-next_origin.is at c.next_origin-2.ensures)

@@ -5,7 +5,7 @@ use Rattle.origin.proofs.Gathering.{gathered_none, gathered_all}
 use Rattle.origin.proofs.messages.Goals as goal
 
 pub loop-s-init : goal.loop-s-init
-loop-s-init c = (search rules, gathered_none c.requires.block member_none)
+loop-s-init c = (search rules, gathered_none c.args.skeleton.drawn.block member_none)
 
 pub returns : goal.returns
-returns c = gathered_all c.requires.block c.loop-s.invariant.1 (search rules)
+returns c = gathered_all c.args.skeleton.drawn.block c.loop-s.invariant.1 (search rules)

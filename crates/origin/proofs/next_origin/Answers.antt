@@ -1,10 +1,7 @@
 -- `origin::next_origin` meets its contract: the loop has passed no origin. Assumes nothing.
 use borrow.Author.Rules.{rules}
-use Rattle.origin.proofs.Originating.{missing_none, missing_more, not_sent, next_here, next_nowhere}
+use Rattle.origin.proofs.Originating.{missing_more, not_sent, next_here, next_nowhere}
 use Rattle.origin.proofs.next_origin.Goals as goal
-
-pub loop-s-init : goal.loop-s-init
-loop-s-init c = (search rules, missing_none)
 
 pub returns-in-Sent : goal.returns-in-Sent
 returns-in-Sent c =

@@ -9,4 +9,4 @@ loop-s-init c = (search rules, gathered_none member_none)
 
 pub returns : goal.returns
 returns c =
-    gathered_all c.requires.0.block c.loop-s.invariant.1 (search rules)
+    gathered_all c.args.skeleton.drawn.block c.loop-s.invariant.1 (search rules)

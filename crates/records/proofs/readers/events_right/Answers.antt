@@ -1,24 +1,31 @@
--- `records::readers::events_right` meets its contract. The loop's invariant: right is whether the first i events are.
+-- `records::readers::events_right` meets its contract.
 -- Assumes nothing.
-use borrow.Author.Rules.{rules}
-use native.Mathlib.Omega.{arith}
-use mathlib.Core.Path.{◌≡◌}
+use Rattle.std.proofs.Common.{rules, tests, arith, ◌≡◌, refl, ◌∙◌, ℕ, zero, suc, ◌+◌, Bool, true, false, ◌&&◌, zero-add, add-zero}
+use Rattle.std.specs.List.{list_all, range_with_len}
+use Rattle.std.proofs.lemmas.Iterator.{YieldsList-from_range}
+use Rattle.std.proofs.lemmas.Iterator.Search.{all_from_yields_List}
+use Rattle.model.specs.Lists.{every}
 use Rattle.model.specs.Reading.{event_right}
-use Rattle.theory.specs.Upto.{every_none, every_next}
 use Rattle.records.proofs.readers.events_right.Goals as goal
 
-pub loop-i-init : goal.loop-i-init
-unfolding event_right
-loop-i-init c =
-    (search rules, every_none _)
+-- `all` over the numbers below n
+and_swap : (x y z : Bool) → (x && (y && z)) ≡ (y && (x && z))
+and_swap true y z = refl
+and_swap false true z = refl
+and_swap false false z = refl
 
-pub loop-i-preserved : goal.loop-i-preserved
-unfolding event_right
-loop-i-preserved c =
-    (search rules, every_next _ _ _ _ c.loop-i.invariant.1 c.event_right-right.ensures)
+all_more : (p : ℕ → Bool) (a n : ℕ) → list_all p (range_with_len a (suc n)) ≡ (p (a + n) && list_all p (range_with_len a n))
+all_more p a zero = rw add-zero refl
+all_more p a (suc n) = let e : a + 1 + n ≡ a + suc n = omega arith in rw (all_more p (a + 1) n, e) (and_swap (p a) (p (a + suc n)) _)
+
+all_every : (p : ℕ → Bool) (n : ℕ) → list_all p (range_with_len 0 n) ≡ every n p
+unfolding every
+all_every p zero = refl
+all_every p (suc n) = rw (all_more p 0 n, zero-add, all_every p n) refl
 
 pub returns : goal.returns
 unfolding event_right
 returns c =
-    let e : c.loop-i.i ≡ c.args.height = omega arith in
-    rw (← e) c.loop-i.invariant.1
+    all_from_yields_List (event_right c.args.terms c.args.rest.now) _ _ _ c.all.ensures.ran
+    (YieldsList-from_range 0 c.args.height c.args.height (cc) (omega arith)) (λ x b q k. search (rules, tests))
+    ∙ all_every _ _

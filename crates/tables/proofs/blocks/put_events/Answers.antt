@@ -1,6 +1,5 @@
 -- `tables::blocks::put_events` meets its contract. The loop's invariant: the first i events are in the table.
 -- Assumes nothing.
-use borrow.Author.Rules.{rules}
 use native.Mathlib.Omega.{arith}
 use mathlib.Core.Path.{◌≡◌}
 use lib.ListN.{length-set}
@@ -9,26 +8,15 @@ use Rattle.tables.proofs.StrandPuts.{events_none, events_more}
 use Rattle.tables.proofs.blocks.put_events.Goals as goal
 
 pub loop-i-init : goal.loop-i-init
-loop-i-init c =
-    (search rules, events_none _ _ _ _)
-
-pub bounds-table-d : goal.bounds-table-d
-bounds-table-d c =
-    omega (arith, c.loop-i.invariant.1.long)
-
-pub bounds-table-m : goal.bounds-table-m
-bounds-table-m c =
-    simp length-set (omega (arith, c.loop-i.invariant.1.long))
+loop-i-init c = events_none _ _ _ _
 
 pub loop-i-preserved : goal.loop-i-preserved
 loop-i-preserved c =
-    let l = c.loop-i in (
-      search rules,
-      events_more (omega arith) (omega arith) l.invariant.1 (put_set _ _ _ (omega (arith, l.invariant.1.long)))
-          (put_set _ _ _ (simp length-set (omega (arith, l.invariant.1.long)))),
-    )
+    let l = c.loop-i in
+    events_more (omega arith) (omega arith) l.invariant (put_set _ _ _ (omega (arith, l.invariant.long)))
+    (put_set _ _ _ (simp length-set (omega (arith, l.invariant.long))))
 
 pub returns : goal.returns
 returns c =
     let e : c.loop-i.i ≡ c.args.height = omega arith in
-    rw (← e) c.loop-i.invariant.1
+    rw (← e) c.loop-i.invariant

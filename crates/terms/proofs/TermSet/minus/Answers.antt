@@ -1,7 +1,7 @@
 -- `terms::TermSet::minus` meets its contract.
 use borrow.Author.Rules.{rules}
-use Rattle.terms.proofs.Words.{member-minus}
+use Rattle.terms.proofs.Words.{members_minus}
 use Rattle.terms.proofs.TermSet.minus.Goals as goal
 
 pub returns : goal.returns
-returns c k = member-minus _ _ (search rules) (search rules) (λ i. search rules) k
+returns c = members_minus (search rules) (search rules) (search rules) (record { made = λ i l. search rules }) (λ i. search rules)

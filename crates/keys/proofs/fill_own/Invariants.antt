@@ -1,6 +1,0 @@
-use Prim.Native.Nat.{◌≤◌}
-use Rattle.keys.specs.Partners.{Own}
-use Rattle.keys.proofs.fill_own.Given as goal
-
-abbrev pub invariant-loop-i : goal.invariant-loop-i
-invariant-loop-i l = (l.i ≤ l.n) × Own l.i l.inverses

@@ -1,8 +1,0 @@
-use Prim.Native.Nat.{◌≤◌, ◌*◌, ◌+◌}
-use Rattle.tables.specs.Layout.{strand_count}
-use Rattle.tables.specs.Tables.{byte}
-use Rattle.order.proofs.Adding.{Held, Below}
-use Rattle.order.proofs.strands.Given as goal
-
-abbrev pub invariant-loop-a : goal.invariant-loop-a
-invariant-loop-a l = (l.a ≤ 16 * byte l.table (l.block + strand_count)) × Held l.initial.m (Below l.table l.block l.a) l.m

@@ -1,6 +1,0 @@
-use Prim.Native.Nat.{◌≤◌}
-use Rattle.order.proofs.Closing.{Partly}
-use Rattle.order.proofs.through.Given as goal
-
-abbrev pub invariant-loop-a : goal.invariant-loop-a
-invariant-loop-a l = (l.a ≤ l.n) × Partly l.initial.m l.k l.a l.m

@@ -1,8 +1,0 @@
--- `terms::has` meets its contract: it computes what `member` says.
-use mathlib.Core.Path.{refl}
-use Rattle.terms.specs.Set.{member, bit}
-use Rattle.terms.proofs.has.Goals as goal
-
-pub returns : goal.returns
-unfolding member bit
-returns c = refl
