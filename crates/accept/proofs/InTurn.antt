@@ -4,7 +4,9 @@ use mathlib.Core.List.{List}
 use Prim.Native.Nat.{ℕ, ◌+◌, ◌<◌}
 use native.Mathlib.Omega.{arith}
 use borrow.Author.Count.{below_more}
-use Rattle.std.specs.Prelude.{Ok, Err}
+use Rattle.std.specs.Prelude.{Result, Ok, Err}
+use lib.ListN.{length}
+use Rattle.model.specs.declared.Refusal.{Refusal}
 use Rattle.model.specs.declared.Reason.{Reason}
 use Rattle.model.specs.Sheet.{Verdict, Drawing, HasSkeleton}
 use Rattle.model.specs.Accepting.{Accepting, Lacking, Right}
@@ -18,12 +20,11 @@ use Rattle.theory.specs.Upto.{length-upto}
 use Rattle.tables.specs.Tables.{byte, rows_of, rows_in, sheet_in, Filled}
 use Rattle.terms.specs.declared.Term.{Term}
 use Rattle.model.specs.Table.{Row}
-use Rattle.keys.specs.declared.Inverses.{Inverses}
 use Rattle.keys.specs.Inverted.{Inverted, Paired}
 use Rattle.rules.specs.declared.Fault.{Fault}
 use Rattle.tables.specs.Drawn.{drawing}
 use Rattle.rules.specs.Judged.{JudgedAs, FaultIs}
-use Rattle.accept.specs.Held.{AllDrawn, RightBelow, Held, Stored}
+use Rattle.accept.specs.Held.{AllDrawn, RightBelow, Held, JudgedAll, SheetAs, Stored}
 use Rattle.accept.proofs.Lies.{has_skeleton, skeleton_lies}
 
 pub right_none : (t : List ℕ) → RightBelow t 0
@@ -88,15 +89,21 @@ module _ (t : List ℕ) (f : Filled t) (r : Raw (sheet_in t)) (whole : (i : ℕ)
 
 -- the keys
 
-pub keys_paired : {rows : List Row} {inverses : Inverses} → Paired rows (Ok inverses)
-    → ((i : ℕ) → ¬ Lacking rows i) × Inverted rows inverses.of
+pub keys_paired : {rows : List Row} {inverses : List ℕ} {x : Unit {0}} → Paired rows inverses (Ok x)
+    → ((i : ℕ) → ¬ Lacking rows i) × Inverted rows inverses
 keys_paired (Paired.all n i) = (n, i)
 
-pub keys_lack : (t : List ℕ) {key : Term} {p : ℕ} → Paired (rows_in t) (Err key) → p ≡ key.0
+pub keys_lack : (t : List ℕ) {inverses : List ℕ} {key : Term} {p : ℕ} → Paired (rows_in t) inverses (Err key) → p ≡ key.0
     → Accepting (sheet_in t)
     (Verdict.refused (refusal_of (record { reason = Reason.KeyWithoutInverse; place = p; skeleton = 0 })))
 unfolding refusal_of sheet_in
 keys_lack t (Paired.lacks l f) e = rw e (Accepting.lacks l f)
+
+pub sheet_judged : (t : List ℕ) {inverses : List ℕ} (r : Result (Unit {0}) Refusal) → JudgedAll (sheet_in t) r → Inverted (rows_in t) inverses
+    → length inverses ≡ 200
+    → SheetAs t inverses r
+sheet_judged t (Ok x) a i l = (a, i, l)
+sheet_judged t (Err r) a i l = a
 
 -- what a question about an accepted sheet may rely on
 pub held_stored : {bytes t inverses : List ℕ} → Held bytes t inverses → Stored t inverses

@@ -8,5 +8,5 @@ use Rattle.accept.specs.declared.sheet.Sheet.{Sheet}
 use Rattle.accept.specs.Held.{Held}
 
 abbrev pub AcceptedAs : List ℕ → Result Sheet Refusal → Type 0
-AcceptedAs bytes (Ok sheet) = Held bytes sheet.table sheet.inverses.of
+AcceptedAs bytes (Ok sheet) = Held bytes sheet.table.now sheet.inverses.now.of
 AcceptedAs bytes (Err r) = HasVerdict bytes (Verdict.refused (refusal_of r))

@@ -9,7 +9,6 @@ use Rattle.theory.specs.Judgement.{Sound}
 use Rattle.tables.specs.Layout.{skeleton_count, block, table_size}
 use Rattle.tables.specs.Tables.{byte, rows_in, sheet_in, Filled}
 use Rattle.keys.specs.Inverted.{Inverted}
-use Rattle.keys.specs.declared.Inverses.{Inverses}
 use Rattle.tables.specs.Drawn.{drawing, Drawn}
 
 -- every skeleton of the table is ready to be judged
@@ -35,9 +34,10 @@ JudgedAll s (Ok x) = Accepting s (Verdict.accepted s)
 JudgedAll s (Err r) = Accepting s (Verdict.refused (refusal_of r))
 
 -- the sheet in the table judged, with the inverses where it is accepted
-abbrev pub SheetAs : List ℕ → Result Inverses Refusal → Type 0
-SheetAs t (Ok inverses) = Accepting (sheet_in t) (Verdict.accepted (sheet_in t)) × Inverted (rows_in t) inverses.of
-SheetAs t (Err r) = Accepting (sheet_in t) (Verdict.refused (refusal_of r))
+abbrev pub SheetAs : List ℕ → List ℕ → Result (Unit {0}) Refusal → Type 0
+SheetAs t inverses (Ok x) =
+    Accepting (sheet_in t) (Verdict.accepted (sheet_in t)) × Inverted (rows_in t) inverses × (length inverses ≡ 200)
+SheetAs t inverses (Err r) = Accepting (sheet_in t) (Verdict.refused (refusal_of r))
 
 -- what a question about the sheet in the table may rely on
 pub record Stored (t inverses : List ℕ) : Type 0 where

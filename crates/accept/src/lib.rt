@@ -12,13 +12,12 @@ ghost use Rattle.accept.specs.Accepted.{AcceptedAs};
 
 pub mod sheet;
 
-use crate::sheet::Sheet;
+use crate::sheet::{Room, Sheet};
 use keys::{Inverses, find_inverses};
 use model::{Reason, Refusal};
-use order::Precedence;
+use order::{Precedence, WORDS};
 use reading::read_sheet;
 use rules::{Fault, judge};
-use tables::TABLE;
 use tables::blocks::{block_of, skeletons_in};
 use tables::drawing::Drawing;
 
@@ -26,7 +25,8 @@ use tables::drawing::Drawing;
 fn judge_block(skeleton: Drawing) -> Result<(), Fault>
     ensures { JudgedAs (drawing skeleton.entry.table.now skeleton.entry.block) result }
 {
-    let before = Precedence::of(skeleton.table, skeleton.block);
+    let mut before = Precedence { words: [0; WORDS] };
+    before.fill(skeleton.table, skeleton.block);
     judge(skeleton, &before)
 }
 
@@ -51,38 +51,36 @@ fn judge_skeletons(table: &[u8]) -> Result<(), Refusal>
     Ok(())
 }
 
-// Accepts the sheet that lies in the table, and finds the inverses, or refuses it. An error of another type is matched and made a
+// Accepts the sheet that lies in the table, and works out the inverses, or refuses it. An error of another type is matched and made a
 // refusal here: with `map_err` the proof at the `?` was left open, as it has the closure's clause there and not the callee's.
-fn accept_terms(table: &[u8]) -> Result<Inverses, Refusal>
+fn accept_terms(table: &[u8], inverses: &mut Inverses) -> Result<(), Refusal>
     requires { Filled table.now × Raw (sheet_in table.now) }
-    ensures { SheetAs table.now result }
+    ensures { SheetAs table.now inverses.new.of result }
 {
-    let inverses = match find_inverses(table) {
-        Ok(inverses) => inverses,
-        Err(key) => {
-            return Err(Refusal {
-                reason: Reason::KeyWithoutInverse,
-                place: usize::from(key.0),
-                skeleton: 0,
-            });
-        }
-    };
-    judge_skeletons(table)?;
-    Ok(inverses)
+    if let Err(key) = find_inverses(table, inverses) {
+        return Err(Refusal {
+            reason: Reason::KeyWithoutInverse,
+            place: usize::from(key.0),
+            skeleton: 0,
+        });
+    }
+    judge_skeletons(table)
 }
 
 // Reads the bytes, and accepts the sheet or refuses it.
-pub fn accept(bytes: &[u8]) -> Result<Sheet, Refusal>
+pub fn accept<'a>(bytes: &[u8], room: &'a mut Room) -> Result<Sheet<'a>, Refusal>
     ensures { AcceptedAs bytes.now result }
 {
-    let mut table = [0; TABLE];
-    if let Err(faulty) = read_sheet(bytes, &mut table) {
+    if let Err(faulty) = read_sheet(bytes, &mut room.table) {
         return Err(Refusal {
             reason: faulty.reason,
             place: faulty.place,
             skeleton: 0,
         });
     }
-    let inverses = accept_terms(&table)?;
-    Ok(Sheet { table, inverses })
+    accept_terms(&room.table, &mut room.inverses)?;
+    Ok(Sheet {
+        table: &room.table,
+        inverses: &room.inverses,
+    })
 }

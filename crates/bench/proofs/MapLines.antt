@@ -10,7 +10,7 @@ use lib.Seq.{take_at, drop_at, drop-drop}
 use Rattle.model.specs.Answers.{end_to_end}
 use Rattle.model.specs.Lines.{map_line}
 use Rattle.lines.specs.Written.{Put, Line}
-use Rattle.lines.proofs.Puts.{put_none, put_after, put_length}
+use Rattle.lines.proofs.Puts.{put_none, put_after}
 use Rattle.model.specs.Report.{map_lines}
 use Rattle.bench.specs.Steps.{lines_upto}
 
@@ -36,10 +36,6 @@ part_line space from n h p =
     let e : from + n - from ≡ n = omega arith in
     let f : length (take n (drop from space)) ≡ n = simp (length-take, length-drop) (omega arith) in
     rw f at (rw e at p)
-
--- where a text ends there is room, or the page ends
-pub put_room : {l : List ℕ} {at : ℕ} {text l₁ : List ℕ} {r : ℕ} → Put l at text l₁ r → r ≤ length l₁
-put_room p = omega (arith, p.room, put_length p)
 
 -- the lines of the first k maps are written, from a place on
 pub record MapsPut (space : List ℕ) (n k : ℕ) (before : List ℕ) (at : ℕ) (after : List ℕ) (next : ℕ) : Type 0 where

@@ -8,8 +8,9 @@ ghost use Rattle.bench.specs.Report.{Reported};
 ghost use Rattle.bench.specs.Steps.{StrandsOf, lines_upto, SkeletonTold, ListTold, AnswersTold};
 
 use accept::accept;
+use accept::sheet::Room;
 use judge::{list, realized, sheet};
-use lines::page::{PAGE, Page};
+use lines::page::Page;
 use lines::{map_line, maps_line, sheet_line, skeleton_line};
 use std::io;
 use std::io::{Read, Write};
@@ -18,6 +19,10 @@ use tables::blocks::{block_of, strands_in};
 // What the list is lent.
 const SPACE: usize = 49152;
 
+// What the longest report needs: four lines of at most 72 bytes, and for each of 49,152 bytes of a list at most four and for each
+// of at most 46,656 maps the end of its line.
+const PAGE: usize = 243552;
+
 // How many bytes of the input decide.
 const INPUT: usize = 4096;
 
@@ -25,26 +30,29 @@ const INPUT: usize = 4096;
 fn strands(bytes: &[u8]) -> usize
     ensures { StrandsOf bytes.now result }
 {
-    match accept(bytes) {
-        Ok(sheet) => usize::from(strands_in(&sheet.table, block_of(0))),
+    let mut room = Room::EMPTY;
+    match accept(bytes, &mut room) {
+        Ok(sheet) => usize::from(strands_in(sheet.table, block_of(0))),
         Err(_) => 0,
     }
 }
 
 // The line of the map of n numbers that lies at `from`.
-fn put_map(space: &[u8], from: usize, n: usize, page: &mut Page)
-    requires { (from + n ≤ length space.now) × (page.old.end + 4 * n + 1 ≤ 243552) }
-    ensures { Line (4 * n + 1) page.old.bytes page.old.end (map_line (take n (drop from space.now))) page.new.bytes page.new.end }
+fn put_map(space: &[u8], from: usize, n: usize, page: &mut Page<'_>)
+    requires { (from + n ≤ length space.now) × (page.old.end + 4 * n + 1 ≤ length page.old.bytes.now) }
+    ensures text { Line (4 * n + 1) page.old.bytes.now page.old.end
+        (map_line (take n (drop from space.now))) page.new.bytes.now page.new.end }
+    ensures same_buffer { page.new.bytes.ghost_name ≡ page.old.bytes.ghost_name }
 {
     map_line(&space[from..from + n], page);
 }
 
 // The lines of the maps, n numbers each, that lie end to end. Each is taken by its place: `chunks_exact` asks that n is not 0, which the
 // answer of the list question alone does not say.
-fn put_maps(space: &[u8], count: usize, n: usize, page: &mut Page)
-    requires { (count * n ≤ length space.now) × (page.old.end + count * (4 * n + 1) ≤ 243552)
-        × (page.old.end ≤ length page.old.bytes) }
-    ensures { Put page.old.bytes page.old.end (lines_upto count n space.now) page.new.bytes page.new.end }
+fn put_maps(space: &[u8], count: usize, n: usize, page: &mut Page<'_>)
+    requires { (count * n ≤ length space.now) × (page.old.end + count * (4 * n + 1) ≤ length page.old.bytes.now) }
+    ensures text { Put page.old.bytes.now page.old.end (lines_upto count n space.now) page.new.bytes.now page.new.end }
+    ensures same_buffer { page.new.bytes.ghost_name ≡ page.old.bytes.ghost_name }
 {
     for k in 0..count {
         put_map(space, k * n, n, page);
@@ -52,9 +60,10 @@ fn put_maps(space: &[u8], count: usize, n: usize, page: &mut Page)
 }
 
 // The maps from skeleton 0 to skeleton 1: how many there are, and a line for each of them.
-fn put_list(bytes: &[u8], space: &mut [u8; SPACE], page: &mut Page)
-    requires { page.old.end + 243336 ≤ 243552 }
-    ensures { ListTold bytes.now space.old page.old.bytes page.old.end page.new.bytes page.new.end }
+fn put_list(bytes: &[u8], space: &mut [u8; SPACE], page: &mut Page<'_>)
+    requires { page.old.end + 243336 ≤ length page.old.bytes.now }
+    ensures text { ListTold bytes.now space.old page.old.bytes.now page.old.end page.new.bytes.now page.new.end }
+    ensures same_buffer { page.new.bytes.ghost_name ≡ page.old.bytes.ghost_name }
 {
     let answer = list(bytes, 0, 1, space);
     maps_line(0, 1, answer, page);
@@ -65,17 +74,19 @@ fn put_list(bytes: &[u8], space: &mut [u8; SPACE], page: &mut Page)
 }
 
 // Is skeleton k realized?
-fn put_skeleton(bytes: &[u8], k: u8, page: &mut Page)
-    requires { page.old.end + 72 ≤ 243552 }
-    ensures { SkeletonTold bytes.now k page.old.bytes page.old.end page.new.bytes page.new.end }
+fn put_skeleton(bytes: &[u8], k: u8, page: &mut Page<'_>)
+    requires { page.old.end + 72 ≤ length page.old.bytes.now }
+    ensures text { SkeletonTold bytes.now k page.old.bytes.now page.old.end page.new.bytes.now page.new.end }
+    ensures same_buffer { page.new.bytes.ghost_name ≡ page.old.bytes.ghost_name }
 {
     skeleton_line(k, realized(bytes, k), page);
 }
 
 // What is said of a good sheet with so many skeletons, after its first line.
-fn put_answers(bytes: &[u8], skeletons: usize, space: &mut [u8; SPACE], page: &mut Page)
-    requires { page.old.end + 243480 ≤ 243552 }
-    ensures { AnswersTold bytes.now space.old skeletons page.old.bytes page.old.end page.new.bytes page.new.end }
+fn put_answers(bytes: &[u8], skeletons: usize, space: &mut [u8; SPACE], page: &mut Page<'_>)
+    requires { page.old.end + 243480 ≤ length page.old.bytes.now }
+    ensures text { AnswersTold bytes.now space.old skeletons page.old.bytes.now page.old.end page.new.bytes.now page.new.end }
+    ensures same_buffer { page.new.bytes.ghost_name ≡ page.old.bytes.ghost_name }
 {
     put_skeleton(bytes, 0, page);
     if skeletons < 2 {
@@ -86,9 +97,10 @@ fn put_answers(bytes: &[u8], skeletons: usize, space: &mut [u8; SPACE], page: &m
 }
 
 // All that is said of the sheet.
-fn report(bytes: &[u8], space: &mut [u8; SPACE], page: &mut Page)
-    requires { page.old.end ≡ 0 }
-    ensures { Reported bytes.now space.old page.old.bytes page.new.bytes page.new.end }
+fn report(bytes: &[u8], space: &mut [u8; SPACE], page: &mut Page<'_>)
+    requires { (page.old.end ≡ 0) × (243552 ≤ length page.old.bytes.now) }
+    ensures text { Reported bytes.now space.old page.old.bytes.now page.new.bytes.now page.new.end }
+    ensures same_buffer { page.new.bytes.ghost_name ≡ page.old.bytes.ghost_name }
 {
     let answer = sheet(bytes);
     sheet_line(answer, page);
@@ -118,10 +130,12 @@ fn main(rt: HostRuntime) -> io::Result<()> {
     let mut bytes = [0; INPUT];
     let length = read_full(&mut rt.reader(), &mut bytes);
     let mut space = [0; SPACE];
+    let mut buffer = [0; PAGE];
     let mut page = Page {
-        bytes: [0; PAGE],
+        bytes: &mut buffer,
         end: 0,
     };
     report(&bytes[..length], &mut space, &mut page);
-    io::writer(&rt).write_all(&page.bytes[..page.end])
+    let end = page.end;
+    io::writer(&rt).write_all(&buffer[..end])
 }

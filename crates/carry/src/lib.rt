@@ -26,6 +26,9 @@ fn loose_at(table: &[u8], t: Term, set: &TermSet, loose: &TermSet, inside: Term)
         (row_at table.now inside.0) }
 {
     let kind = kind_at(table, inside);
+    if kind < Kind::Pair {
+        return inside == t;
+    }
     let first = loose.has(Term(first_at(table, inside)));
     let second = loose.has(Term(second_at(table, inside)));
     let part = kind.is(Kind::Pair) & (first | second) | kind.is(Kind::Encryption) & first;

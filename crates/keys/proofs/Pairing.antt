@@ -18,7 +18,6 @@ use Rattle.theory.specs.Reach.{inverse_of, inverse_at}
 use Rattle.theory.specs.Standing.{Fair}
 use Rattle.tables.specs.Layout.{firsts, term_count}
 use Rattle.tables.specs.Tables.{byte, the_row, rows_in, Filled}
-use Rattle.keys.specs.declared.Inverses.{Inverses}
 use Rattle.std.specs.Prelude.{Ok}
 use Rattle.keys.specs.Inverted.{Inverted, Paired, all}
 use Rattle.keys.specs.Partners.{Own, Partner, of_inverse, of_key, of_other, Partners}
@@ -138,6 +137,18 @@ module _ (rows : List Row) (n : ℕ) where
     inverted : {l : List ℕ} → length rows ≡ n → ((i : ℕ) → ¬ Lacking rows i) → Partners rows n l → Inverted rows l
     inverted e c p = record { at = λ i h. partner_inverse h e (c i) (p.at i h) }
 
+-- Each its own
+
+pub own_none : {l : List ℕ} → length l ≡ 200 → Own 0 l
+own_none e = record { long = e; at = λ k h. absurd (omega arith) }
+
+pub own_more : {i : ℕ} {l : List ℕ} → i < 200 → Own i l → Own (i + 1) (set l i i)
+own_more {i} {l} h own = record { long = simp length-set own.long; at = λ k q. go k q (eqb k i) refl }
+  where
+    go : (k : ℕ) → k < i + 1 → (b : Bool) → eqb k i ≡ b → byte (set l i i) k ≡ k
+    go k q true e = let z : k ≡ i = eqb-true k i e in rw (z, get_or-set_same l i i 0 (omega (arith, own.long)))
+    go k q false e = rw (get_or-set_other l i k i 0 (eqb-false k i e)) (own.at k (omega (arith, eqb-false k i e)))
+
 -- By the bytes of a table
 
 pub is_inverse : {k b : ℕ} → k ≡ b → eqb k 8 ≡ true → b ≡ 8
@@ -175,9 +186,9 @@ module _ (t : List ℕ) (j : ℕ) (f : Filled t) (h : j < byte t term_count) whe
         λ c. rw (← k, c.a_key) (eq-eqb (byte l j) j (lacking_own _ _ (count_is t) c (p.at j i))),
       )
 
-pub all_paired : (t : List ℕ) {v : Inverses} (i : ℕ) → Fair (rows_in t) → byte t term_count ≤ i
+pub all_paired : (t : List ℕ) {l : List ℕ} (i : ℕ) → Fair (rows_in t) → byte t term_count ≤ i
     → ((j : ℕ) → j < i → ¬ Lacking (rows_in t) j)
-    → Partners (rows_in t) (byte t term_count) v.of → Paired (rows_in t) (Ok v)
+    → Partners (rows_in t) (byte t term_count) l → Paired (rows_in t) l (Ok tt)
 all_paired t i fair h none p =
     let each : (j : ℕ) → ¬ Lacking (rows_in t) j = λ j k. none j (omega (arith, k.a_term, count_is t)) k in
     all each (inverted (rows_in t) (byte t term_count) fair (count_is t) each p)

@@ -2,7 +2,7 @@
 // read here and not yet accepted, and a struct for the facts of that one moment would be no plainer.
 #![tactic(auto)]
 
-ghost use Rattle.std.specs.Prelude.{◌≡◌, true, ◌↔◌, ◌+◌, ◌<◌};
+ghost use Rattle.std.specs.Prelude.{◌≡◌, true, ◌↔◌, ◌+◌, ◌≤◌, ◌<◌, length};
 ghost use Rattle.model.specs.Accepting.{Lacking};
 ghost use Rattle.theory.specs.Standing.{Fair};
 ghost use Rattle.tables.specs.Layout.{term_count};
@@ -10,7 +10,6 @@ ghost use Rattle.tables.specs.Tables.{byte, rows_in, Filled};
 ghost use Rattle.keys.specs.Inverted.{Paired};
 ghost use Rattle.keys.specs.Partners.{Own, Partners};
 
-use std::array;
 use tables::kinds::Kind;
 use tables::rows::{first_at, kind_at, terms_in};
 use terms::Term;
@@ -30,13 +29,13 @@ impl Inverses {
         Term(self.of[usize::from(t.0)])
     }
 
-    // Each term is its own inverse, as long as no row says otherwise. `from_fn` counts in `usize`, and below 200 `as` keeps the number;
-    // a `try_from` would have an error that never comes.
-    fn own() -> Inverses
-        ensures { Own 200 result.of }
+    // Each of the n terms is its own inverse, as long as no row says otherwise.
+    fn own(&mut self, n: u8)
+        requires { n ≤ 200 }
+        ensures { Own n self.new.of }
     {
-        Inverses {
-            of: array::from_fn(|i| i as u8),
+        for i in 0..n {
+            self.of[usize::from(i)] = i;
         }
     }
 
@@ -54,15 +53,14 @@ impl Inverses {
     }
 
     // What all rows say.
-    fn of_rows(table: &[u8]) -> Inverses
+    fn rows(&mut self, table: &[u8])
         requires { Filled table.now × Fair (rows_in table.now) }
-        ensures { Partners (rows_in table.now) (byte table.now term_count) result.of }
+        ensures { Partners (rows_in table.now) (byte table.now term_count) self.new.of }
     {
-        let mut inverses = Inverses::own();
+        self.own(terms_in(table));
         for j in 0..terms_in(table) {
-            inverses.pair(table, Term(j));
+            self.pair(table, Term(j));
         }
-        inverses
     }
 
     // Whether t is a key that no row is the inverse of.
@@ -76,14 +74,15 @@ impl Inverses {
     }
 }
 
-// The number of each term's inverse; or the lowest key without its inverse.
-pub fn find_inverses(table: &[u8]) -> Result<Inverses, Term>
+// Works out the number of each term's inverse; or finds the lowest key without its inverse. The numbers are lent: a value of theirs
+// would be copied where it is handed back, and the archive for C would need `memcpy`.
+pub fn find_inverses(table: &[u8], inverses: &mut Inverses) -> Result<(), Term>
     requires { Filled table.now × Fair (rows_in table.now) }
-    ensures { Paired (rows_in table.now) result }
+    ensures { Paired (rows_in table.now) inverses.new.of result × (length inverses.new.of ≡ 200) }
 {
-    let inverses = Inverses::of_rows(table);
+    inverses.rows(table);
     match (0..terms_in(table)).find(|i| inverses.lacks(table, Term(*i))) {
         Some(i) => Err(Term(i)),
-        None => Ok(inverses),
+        None => Ok(()),
     }
 }

@@ -8,7 +8,7 @@ use lib.ListN.{length, drop, get_or, drop_of_length-le}
 use lib.Seq.{drop-cons}
 use Rattle.model.specs.Lines.{ascii, decimal, map_line}
 use Rattle.lines.specs.Written.{Put, Counted}
-use Rattle.lines.proofs.Puts.{put_after, then_number}
+use Rattle.lines.proofs.Puts.{put_length, put_after, then_number}
 
 -- what comes after a number of the line
 unfoldable later : List ℕ → List ℕ
@@ -34,6 +34,9 @@ pub record Begun (map rest : List ℕ) (i : ℕ) (l : List ℕ) (at : ℕ) (l₁
 module _ {map rest l : List ℕ} {at : ℕ} {l₁ : List ℕ} {next : ℕ} where
   pub begun_first : {x most : ℕ} → map ≡ x ∷ rest → Counted most l at [] x l₁ next → Begun map rest 0 l at l₁ next
   begun_first {x} e p = record { text = decimal x; put = p.put; left = rw (e, first_of x rest) refl }
+
+  pub begun_length : {i : ℕ} → Begun map rest i l at l₁ next → length l₁ ≡ length l
+  begun_length b = put_length b.put
 
   module _ {i : ℕ} {l₂ : List ℕ} {r : ℕ} where
     pub begun_more : {most : ℕ} → Begun map rest i l at l₁ next → i < length rest

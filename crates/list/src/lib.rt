@@ -42,9 +42,10 @@ impl Candidates {
 }
 
 // How many words have a bit for each of the most candidates, 6 to the 6th power.
-const WORDS: usize = 729;
+pub const WORDS: usize = 729;
 
-// Which candidates are maps: bit c % 64 of word c / 64 says whether candidate c is one.
+// Which candidates are maps: bit c % 64 of word c / 64 says whether candidate c is one. It takes 5832 bytes, so who owns it lends it:
+// no function hands one back.
 #[derive(Drop)]
 pub struct Found {
     pub words: [u64; WORDS],
@@ -53,11 +54,11 @@ pub struct Found {
 impl Found {
     ghost use Rattle.list.specs.Found.{marked};
 
-    // None is marked.
-    pub fn none() -> Found
-        ensures { (k : ℕ) → marked result k ≡ false }
+    // Marks nothing.
+    pub fn clear(&mut self)
+        ensures { (k : ℕ) → marked self.new k ≡ false }
     {
-        Found { words: [0; WORDS] }
+        self.words.fill(0);
     }
 
     // Whether candidate c is marked.

@@ -15,8 +15,8 @@ ghost use Rattle.listing.specs.Found.{strands, IsMap, MarkedBelow, GivenAs, FewM
 ghost use Rattle.listing.specs.Search.{Searches, MarkedAll};
 
 use accept::sheet::Sheet;
-use list::{Candidates, Found};
-use mapping::prepared::{Prepared, prepare};
+use list::{Candidates, Found, WORDS};
+use mapping::prepared::{Prepared, Room, prepare, sides_of};
 use mapping::{NONE, judge_map};
 use model::{Answer, Reason, Refusal};
 
@@ -57,18 +57,17 @@ impl<'a> Search<'a> {
         judge_map(&self.prepared, &map[..used], &mut images).is_ok()
     }
 
-    // Marks the candidates that are maps.
-    fn find(&self) -> Found
+    // Marks the candidates that are maps, and no others.
+    fn find(&self, found: &mut Found)
         requires { Searches self.now }
-        ensures { MarkedAll self.now result }
+        ensures { MarkedAll self.now found.new }
     {
-        let mut found = Found::none();
+        found.clear();
         for c in 0..self.candidates.total() {
             if self.is_map(c) {
                 found.mark(c);
             }
         }
-        found
     }
 }
 
@@ -87,14 +86,17 @@ fn write_list(found: &Found, candidates: Candidates, space: &mut [u8]) -> Answer
 }
 
 // Which strand maps from one skeleton to another are maps? All are written, in dictionary order.
-pub fn list(sheet: &Sheet, source: u8, target: u8, space: &mut [u8]) -> Answer<usize>
-    requires { WithinLimits (sheet_in sheet.now.table) }
-    ensures { AskList source target space.old (Verdict.accepted (sheet_in sheet.now.table)) (list_says result)
+pub fn list(sheet: Sheet, source: u8, target: u8, space: &mut [u8]) -> Answer<usize>
+    requires { WithinLimits (sheet_in sheet.table.now) }
+    ensures { AskList source target space.old (Verdict.accepted (sheet_in sheet.entry.table.now)) (list_says result)
         space.new × FewMaps result }
 {
-    let Some(prepared) = prepare(sheet, source, target) else {
+    let Some(sides) = sides_of(sheet, source, target) else {
         return Err(Refusal::from(Reason::NoSuch));
     };
-    let search = Search::new(prepared);
-    write_list(&search.find(), search.candidates, space)
+    let mut room = Room::EMPTY;
+    let search = Search::new(prepare(sides, sheet.inverses, &mut room));
+    let mut found = Found { words: [0; WORDS] };
+    search.find(&mut found);
+    write_list(&found, search.candidates, space)
 }

@@ -1,4 +1,5 @@
 -- From what the code finds to what is asked, at an accepted sheet in its table. Assumes nothing.
+use mathlib.Core.Path.{◌≡◌, ◌∙◌}
 use mathlib.Core.List.{List}
 use Prim.Native.Nat.{ℕ, ◌<◌, ◌≤◌}
 use native.Mathlib.Omega.{arith}
@@ -15,7 +16,9 @@ use Rattle.tables.specs.Tables.{byte, rows_in, skeleton_in, sheet_in}
 use Rattle.tables.specs.Drawn.{drawing}
 use Rattle.accept.specs.Held.{Stored}
 use Rattle.accept.proofs.Lies.{skeleton_lies, is_drawn, is_right, or_ordered}
-use Rattle.mapping.specs.Judged.{Asked, JudgedAs}
+use Rattle.matching.specs.declared.sides.Sides.{Sides}
+use Rattle.mapping.specs.declared.prepared.Prepared.{Prepared}
+use Rattle.mapping.specs.Judged.{Asked, IsPrepared, SidesOf, PreparedFor, JudgedAs}
 use Rattle.mapping.specs.Listed.{AtomsListed}
 use Rattle.mapping.specs.Written.{Written}
 use Rattle.mapping.proofs.Writing.{images_written}
@@ -41,6 +44,19 @@ module _ {t inverses : List ℕ} (stored : Stored t inverses) (listed : AtomsLis
         nons = listed.nons source h;
         uniqs = listed.uniqs source h;
       }
+
+-- what the judgement of the maps between two skeletons of the sheet asks
+pub sides_asked : {t inverses : List ℕ} → Stored t inverses → AtomsListed t → {source target : ℕ} {s : Sides} → SidesOf t source target s
+    → Asked s.table.now inverses s.source s.target
+sides_asked stored listed q = rw (q.table, q.from, q.to) (is_asked stored listed q.there.from q.there.to)
+
+pub prepared_for : {t : List ℕ} {source target : ℕ} {s : Sides} {p : Prepared} → SidesOf t source target s → IsPrepared p
+    → p.sides.table.now ≡ s.table.now
+    → p.sides.source ≡ s.source
+    → p.sides.target ≡ s.target
+    → PreparedFor t source target p
+prepared_for q is e f g =
+    record { prepared = is; table = e ∙ q.table; from = f ∙ q.from; to = g ∙ q.to; there = q.there }
 
 -- the answers
 module _ (t : List ℕ) (source target : ℕ) (map lent : List ℕ) where

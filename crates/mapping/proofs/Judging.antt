@@ -167,10 +167,10 @@ module _ (p : Prepared) (is : IsPrepared p) (map images : List ℕ) where
   abbrev B : Skeleton ℕ
   B = skeleton_at p.sides.table.now p.sides.target
 
-  pub nons_tell : {r : Bool} → Judges5 rows images p.from.nons p.to.nons r → KeptTo3 rows A B map images → Tells5 rows A B map r
+  pub nons_tell : {r : Bool} → Judges5 rows images p.from.now.nons p.to.now.nons r → KeptTo3 rows A B map images → Tells5 rows A B map r
   nons_tell test three = test.tells _ _ _ (matched is.asked three) is.source_atoms.nons is.target_atoms.nons
 
-  pub uniqs_tell : {r : Bool} → Judges6 rows images map p.from.uniqs p.to.uniqs p.from.origins p.to.origins r
+  pub uniqs_tell : {r : Bool} → Judges6 rows images map p.from.now.uniqs p.to.now.uniqs p.from.now.origins p.to.now.origins r
       → KeptTo3 rows A B map images
       → Tells6 rows A B map r
   uniqs_tell test three =

@@ -19,6 +19,7 @@ use Rattle.keys.specs.Inverted.{Inverted}
 use Rattle.order.specs.Precedence.{Shows, Ordered}
 use Rattle.matching.specs.Matches.{Matches}
 use Rattle.maps.specs.Rules.{IsOrigins}
+use Rattle.matching.specs.declared.sides.Sides.{Sides}
 use Rattle.mapping.specs.declared.prepared.Atoms.{Atoms}
 use Rattle.mapping.specs.declared.prepared.Prepared.{Prepared}
 
@@ -47,22 +48,29 @@ pub record Asked (t inverses : List ℕ) (a b : ℕ) : Type 0 where
 -- the target's precedence, the atoms of both, and where their UO atoms originate
 pub record IsPrepared (p : Prepared) : Type 0 where
   pub asked : Asked p.sides.table.now p.inverses.now.of p.sides.source p.sides.target
-  pub matrix : Shows (skeleton_at p.sides.table.now p.sides.target) p.before.words
-  pub source_atoms : AtomsAre (rows_in p.sides.table.now) (skeleton_at p.sides.table.now p.sides.source) p.from
-  pub target_atoms : AtomsAre (rows_in p.sides.table.now) (skeleton_at p.sides.table.now p.sides.target) p.to
+  pub matrix : Shows (skeleton_at p.sides.table.now p.sides.target) p.before.now.words
+  pub source_atoms : AtomsAre (rows_in p.sides.table.now) (skeleton_at p.sides.table.now p.sides.source) p.from.now
+  pub target_atoms : AtomsAre (rows_in p.sides.table.now) (skeleton_at p.sides.table.now p.sides.target) p.to.now
 
--- the judgement of the maps between two skeletons of the sheet in the table t is prepared
+-- they are the skeletons of these numbers of the sheet in the table t, which has both
+pub record SidesOf (t : List ℕ) (source target : ℕ) (s : Sides) : Type 0 where
+  pub table : s.table.now ≡ t
+  pub from : s.source ≡ block source
+  pub to : s.target ≡ block target
+  pub there : HasSkeletons source target (sheet_in t) (drawing t (block source), drawing t (block target))
+
+-- the same, or that the sheet has not both
+abbrev pub SidesAs : List ℕ → ℕ → ℕ → Option Sides → Type 0
+SidesAs t source target (Some s) = SidesOf t source target s
+SidesAs t source target None = (x : Drawing × Drawing) → ¬ HasSkeletons source target (sheet_in t) x
+
+-- the judgement of the maps between the skeletons of these numbers of the sheet in the table t is prepared
 pub record PreparedFor (t : List ℕ) (source target : ℕ) (p : Prepared) : Type 0 where
   pub prepared : IsPrepared p
   pub table : p.sides.table.now ≡ t
   pub from : p.sides.source ≡ block source
   pub to : p.sides.target ≡ block target
   pub there : HasSkeletons source target (sheet_in t) (drawing t (block source), drawing t (block target))
-
--- the same, or that the sheet has not both
-abbrev pub PreparedAs : List ℕ → ℕ → ℕ → Option Prepared → Type 0
-PreparedAs t source target (Some p) = PreparedFor t source target p
-PreparedAs t source target None = (x : Drawing × Drawing) → ¬ HasSkeletons source target (sheet_in t) x
 
 -- the first broken rule, or the images
 pub data JudgedAs (rows : List Row) (A B : Skeleton ℕ) (map images : List ℕ) : Result (Unit {0}) Rule → Type 0 where

@@ -24,7 +24,7 @@ pub use matching::NONE;
 use matching::accepted::Accepted;
 use matching::matches;
 use model::{Answer, Reason, Refusal, Rule};
-use prepared::{Prepared, prepare};
+use prepared::{Prepared, Room, prepare, sides_of};
 use tables::rows::terms_in;
 use terms::{Term, TermSet};
 
@@ -55,7 +55,7 @@ pub fn judge_map(prepared: &Prepared, map: &[u8], images: &mut [u8; 200]) -> Res
     if !matches(sides, prepared.inverses, map, images) {
         return Err(Rule::Messages);
     }
-    if !rule_four(sides, map, &prepared.before) {
+    if !rule_four(sides, map, prepared.before) {
         return Err(Rule::Order);
     }
     let images = images_of(sides.table, prepared.inverses, images);
@@ -92,26 +92,28 @@ fn write_images(table: &[u8], images: &[u8; 200], lent: &mut [u8])
 
 // Is the strand map from one skeleton to another a map? The images are written if it is.
 pub fn map(
-    sheet: &Sheet,
+    sheet: Sheet,
     source: u8,
     target: u8,
     map: &[u8],
     images: &mut [u8],
 ) -> Answer<Option<Rule>>
-    requires { AtomsListed sheet.now.table }
+    requires { AtomsListed sheet.table.now }
     ensures { AskMap source target map.now images.old
-        (Verdict.accepted (sheet_in sheet.now.table)) (map_says result) images.new }
+        (Verdict.accepted (sheet_in sheet.entry.table.now)) (map_says result) images.new }
 {
-    let Some(prepared) = prepare(sheet, source, target) else {
+    let Some(sides) = sides_of(sheet, source, target) else {
         return Err(Refusal::from(Reason::NoSuch));
     };
-    if images.len() < usize::from(terms_in(&sheet.table)) {
+    if images.len() < usize::from(terms_in(sheet.table)) {
         return Err(Refusal::from(Reason::NoRoom));
     }
+    let mut room = Room::EMPTY;
+    let prepared = prepare(sides, sheet.inverses, &mut room);
     let mut found = [NONE; 200];
     if let Err(rule) = judge_map(&prepared, map, &mut found) {
         return Ok(Some(rule));
     }
-    write_images(&sheet.table, &found, images);
+    write_images(sheet.table, &found, images);
     Ok(None)
 }

@@ -7,8 +7,8 @@ use Prim.Native.Nat.{ℕ, zero, suc, ◌+◌, ◌*◌, ◌/◌, ◌%◌, ◌<◌
 use native.Mathlib.Nat.{add-zero}
 use native.Mathlib.Omega.{arith}
 use native.Mathlib.Decide.{ℕ_discrete}
-use lib.ListN.{length, get_or, replicate}
-use Rattle.std.proofs.lemmas.List.{get_or-replicate}
+use lib.ListN.{length, get_or, replicate, take, drop}
+use Rattle.std.proofs.lemmas.List.{get_or-replicate, get_or-take, get_or-drop}
 use lib.Seq.{get_or-set_same, get_or-set_other, lt-length-set}
 use lib.Bits.{bit_or}
 use borrow.Author.Tests.{eq-eqb, ne_eqb}
@@ -31,8 +31,12 @@ row_none m a low high = record { off = λ b hb. word_none m a b (go (b / 64) (om
     go (suc (suc h)) l = absurd (omega arith)
 
 -- all words are 0
-pub rows_none : EmptyFrom 0 (replicate 192 0)
-rows_none = record { row = λ a l ha. record { off = λ b hb. word_none (replicate 192 0) a b (get_or-replicate 192 (2 * a + b / 64) 0 0 (omega arith)) } }
+pub rows_none : (m : List ℕ) → ((i : ℕ) → i < 192 → get_or m i 0 ≡ 0) → EmptyFrom 0 m
+rows_none m none =
+    record { row = λ a l ha. record { off = λ b hb. word_none m a b (none (2 * a + b / 64) (omega arith)) } }
+
+pub rows_cleared : {m : List ℕ} (n : ℕ) → m ≡ replicate n 0 → n ≡ 192 → EmptyFrom 0 m
+rows_cleared {m} n e h = rows_none m (λ i k. rw (e, h) (get_or-replicate 192 i 0 0 k))
 
 -- row by row from the last one down
 pub from_more : (m : List ℕ) (n : ℕ) → EmptyFrom n m → Empty m (n - 1) → EmptyFrom (n - 1) m
@@ -74,6 +78,11 @@ on_member m a b =
     let word : (128 * a + b) / 64 ≡ 2 * a + b / 64 = omega arith in
     let place : (128 * a + b) % 64 ≡ b % 64 = omega arith in
     rw (word, place)
+
+-- and number b of the set that the words from that row on hold
+pub on_part : (m : List ℕ) (a b n : ℕ) → b / 64 < n → member (take n (drop (2 * a) m)) b ≡ on m a b
+unfolding on member
+on_part m a b n h = rw (get_or-take n (drop (2 * a) m) (b / 64) 0 h, get_or-drop (2 * a) m (b / 64) 0)
 
 -- that number put into the set
 module _ (m m' : List ℕ) (a b : ℕ) (put : Added (128 * a + b) true m m') where

@@ -16,7 +16,7 @@ use tables::blocks::{height_at, orders_in, pair_at, strands_in};
 use terms::{Node, Strand, has_bit, put_bit};
 
 // How many words a matrix takes.
-const WORDS: usize = 192;
+pub const WORDS: usize = 192;
 
 // What comes before what. Who asks is lent the matrix, so that its 192 words are not copied on the way.
 #[derive(Drop)]
@@ -42,16 +42,16 @@ fn row_count(table: &[u8], block: usize) -> usize
 
 // A skeleton is lent as its table and block. A `Drawing` asks more of callers: good terms, where bounds are enough.
 impl Precedence {
-    // What comes before what in the skeleton whose block of the table begins at `block`.
-    pub fn of(table: &[u8], block: usize) -> Precedence
+    // Works out what comes before what in the skeleton whose block of the table begins at `block`, whatever was there. The matrix is
+    // lent: a value of it would be copied where it is handed back, and the archive for C would need `memcpy`.
+    pub fn fill(&mut self, table: &[u8], block: usize)
         requires { Filled table.now × Block table.now block × (block + block_size ≤ table_size) × Ordered table.now block }
-        ensures { Shows (skeleton_at table.now block) result.words }
+        ensures { Shows (skeleton_at table.now block) self.new.words }
     {
-        let mut before = Precedence { words: [0; WORDS] };
-        before.strands(table, block);
-        before.orders(table, block);
-        before.close(row_count(table, block));
-        before
+        self.words.fill(0);
+        self.strands(table, block);
+        self.orders(table, block);
+        self.close(row_count(table, block));
     }
 
     // Whether the first node comes before the second.
@@ -71,12 +71,12 @@ impl Precedence {
         (0..row_count(table, block)).any(|a| self.has(a, a))
     }
 
-    // Whether b is in row a.
+    // Whether b is in row a. The row is taken first: `through` asks of one b in each row, and then its word and its bit are found once.
     fn has(&self, a: usize, b: usize) -> bool
         requires { (a < 96) × (b < 96) }
         ensures { result ≡ on self.now.words a b }
     {
-        has_bit(&self.words, 128 * a + b)
+        has_bit(&self.words[2 * a..], b)
     }
 
     // Puts b into row a.

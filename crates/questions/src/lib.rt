@@ -12,7 +12,7 @@ ghost use Rattle.questions.specs.Subject.{Has, AllBelow, HeardAs};
 
 use accept::sheet::Sheet;
 use model::{Answer, Reason, Refusal};
-use order::Precedence;
+use order::{Precedence, WORDS};
 use realized::Scene;
 use tables::blocks::Event;
 use tables::drawing::Drawing;
@@ -44,43 +44,44 @@ fn has_terms(table: &[u8], t: Term, inside: Term, set: &[u8]) -> bool
 }
 
 // "Carried only within": whether `t` is carried only within the lent terms in the term `inside`.
-pub fn within(sheet: &Sheet, t: Term, inside: Term, set: &[u8]) -> Answer<bool>
-    ensures { AskWithin t.0 inside.0 set.now (Verdict.accepted (sheet_in sheet.now.table))
+pub fn within(sheet: Sheet, t: Term, inside: Term, set: &[u8]) -> Answer<bool>
+    ensures { AskWithin t.0 inside.0 set.now (Verdict.accepted (sheet_in sheet.entry.table.now))
         (yes_no_says result) set.now }
 {
-    if !has_terms(&sheet.table, t, inside, set) {
+    if !has_terms(sheet.table, t, inside, set) {
         return Err(no_such());
     }
-    Ok(carry::within(&sheet.table, t, inside, set))
+    Ok(carry::within(sheet.table, t, inside, set))
 }
 
-// What comes before what in a skeleton. Each question makes a `Scene` of it for itself: a `Scene` lends the matrix that the question
-// owns, so no function could hand both out.
-fn precedence(skeleton: Drawing) -> Precedence
-    ensures { Shows (skeleton_at skeleton.entry.table.now skeleton.entry.block) result.words }
+// Works out what comes before what in a skeleton. Each question owns the matrix and makes a `Scene` that lends it, so no function could
+// hand both out.
+fn precedence(skeleton: Drawing, before: &mut Precedence)
+    ensures { Shows (skeleton_at skeleton.entry.table.now skeleton.entry.block) before.new.words }
 {
-    Precedence::of(skeleton.table, skeleton.block)
+    before.fill(skeleton.table, skeleton.block);
 }
 
 // "Realized": whether the skeleton is, or else its first open reception.
-pub fn realized(sheet: &Sheet, skeleton: u8) -> Answer<Option<Node>>
-    ensures { AskRealized skeleton (Verdict.accepted (sheet_in sheet.now.table)) (realized_says result) [] }
+pub fn realized(sheet: Sheet, skeleton: u8) -> Answer<Option<Node>>
+    ensures { AskRealized skeleton (Verdict.accepted (sheet_in sheet.entry.table.now)) (realized_says result) [] }
 {
     let Some(skeleton) = sheet.skeleton(skeleton) else {
         return Err(no_such());
     };
-    let before = precedence(skeleton);
+    let mut before = Precedence { words: [0; WORDS] };
+    precedence(skeleton, &mut before);
     let scene = Scene {
         skeleton,
-        inverses: &sheet.inverses,
+        inverses: sheet.inverses,
         before: &before,
     };
     Ok(scene.first_open())
 }
 
 // The skeleton, if the sheet has it and it has a reception at the node.
-fn skeleton_heard(sheet: &Sheet, skeleton: u8, node: Node) -> Option<Drawing>
-    ensures { HeardAs sheet.now.table skeleton (node_of node) result }
+fn skeleton_heard(sheet: Sheet, skeleton: u8, node: Node) -> Option<Drawing>
+    ensures { HeardAs sheet.entry.table.now skeleton (node_of node) result }
 {
     let skeleton = sheet.skeleton(skeleton)?;
     let Some(Event::Reception(_)) = skeleton.event_at(node) else {
@@ -90,36 +91,38 @@ fn skeleton_heard(sheet: &Sheet, skeleton: u8, node: Node) -> Option<Drawing>
 }
 
 // "Derivable before": whether the term is derivable before the reception.
-pub fn derivable(sheet: &Sheet, skeleton: u8, node: Node, term: Term) -> Answer<bool>
-    ensures { AskDerivable skeleton (node_of node) term.0 (Verdict.accepted (sheet_in sheet.now.table))
+pub fn derivable(sheet: Sheet, skeleton: u8, node: Node, term: Term) -> Answer<bool>
+    ensures { AskDerivable skeleton (node_of node) term.0 (Verdict.accepted (sheet_in sheet.entry.table.now))
         (yes_no_says result) [] }
 {
     let Some(skeleton) = skeleton_heard(sheet, skeleton, node) else {
         return Err(no_such());
     };
-    if terms_in(&sheet.table) <= term.0 {
+    if terms_in(sheet.table) <= term.0 {
         return Err(no_such());
     }
-    let before = precedence(skeleton);
+    let mut before = Precedence { words: [0; WORDS] };
+    precedence(skeleton, &mut before);
     let scene = Scene {
         skeleton,
-        inverses: &sheet.inverses,
+        inverses: sheet.inverses,
         before: &before,
     };
     Ok(scene.reached_before(node).has(term))
 }
 
 // "Reach": how many of the sheet's terms are derivable before the reception.
-pub fn reach(sheet: &Sheet, skeleton: u8, node: Node) -> Answer<usize>
-    ensures { AskReach skeleton (node_of node) (Verdict.accepted (sheet_in sheet.now.table)) (reach_says result) [] }
+pub fn reach(sheet: Sheet, skeleton: u8, node: Node) -> Answer<usize>
+    ensures { AskReach skeleton (node_of node) (Verdict.accepted (sheet_in sheet.entry.table.now)) (reach_says result) [] }
 {
     let Some(skeleton) = skeleton_heard(sheet, skeleton, node) else {
         return Err(no_such());
     };
-    let before = precedence(skeleton);
+    let mut before = Precedence { words: [0; WORDS] };
+    precedence(skeleton, &mut before);
     let scene = Scene {
         skeleton,
-        inverses: &sheet.inverses,
+        inverses: sheet.inverses,
         before: &before,
     };
     Ok(scene.count_reached(node))

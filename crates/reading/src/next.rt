@@ -32,7 +32,7 @@ fn read_assumed(table: &[u8], which: Assumed, rest: &[u8]) -> Result<Record, Rea
         → Reads result rest.now (read_as (atom_mark which) (state_in last table.now) rest.now) }
 {
     let there = atoms_in(table, block_of(in_work(table)), which);
-    read_atom(table, which, there, rest)
+    read_atom(table, which, usize::from(there), rest)
 }
 
 // What a record of this mark says.
@@ -45,10 +45,10 @@ fn read_as(mark: Mark, table: &[u8], rest: &[u8]) -> Result<Record, Reason>
     match mark {
         Mark::BS => read_edition(rest),
         Mark::TM => read_term(table, rest),
-        Mark::SK => read_begin(skeletons_in(table)),
+        Mark::SK => read_begin(usize::from(skeletons_in(table))),
         Mark::ST => read_strand(
-            terms_in(table),
-            strands_in(table, block_of(in_work(table))),
+            usize::from(terms_in(table)),
+            usize::from(strands_in(table, block_of(in_work(table)))),
             rest,
         ),
         Mark::OR => read_order(table, in_work(table), rest),

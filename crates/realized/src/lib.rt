@@ -165,6 +165,6 @@ impl Scene<'_> {
                 return Some(node);
             }
         }
-        None
+        None // on no strand
     }
 }

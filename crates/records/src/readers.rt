@@ -94,25 +94,25 @@ pub fn read_term(table: &[u8], rest: &[u8]) -> Result<Record, Reason>
 
 // It is told how many skeletons there are.
 #[tactic(auto, using(crate::proofs::Tests::tests), unfolding(model::specs::Reading::read_SK))]
-pub fn read_begin(skeletons: u8) -> Result<Record, Reason>
+pub fn read_begin(skeletons: usize) -> Result<Record, Reason>
     ensures { (rest : List ℕ) → Reads result rest (read_SK skeletons) }
 {
-    if MOST_SKELETONS <= usize::from(skeletons) {
+    if MOST_SKELETONS <= skeletons {
         return Err(Reason::OutOfBounds);
     }
     Ok(Record::Begin)
 }
 
 // Whether an event of a strand has a direction and a term.
-fn event_right(terms: u8, direction: u8, message: Term) -> bool
+fn event_right(terms: usize, direction: u8, message: Term) -> bool
     ensures { result ≡ (leb direction 1 && ltb message.0 terms) }
 {
-    (direction <= RECEIVE) & (message.0 < terms)
+    (direction <= RECEIVE) & (usize::from(message.0) < terms)
 }
 
 // Whether each event of an ST record is right. That the record is whole stays a clause here and where it is stored: between the two
 // a `Record` carries the height alone, without the remainder that the fact speaks of.
-fn events_right(terms: u8, height: usize, rest: &[u8]) -> bool
+fn events_right(terms: usize, height: usize, rest: &[u8]) -> bool
     requires { (height ≤ 16) × (3 + 2 * height ≤ length rest.now) }
     ensures { result ≡ every height (event_right terms rest.now) }
 {
@@ -121,10 +121,10 @@ fn events_right(terms: u8, height: usize, rest: &[u8]) -> bool
 
 // It is told how many terms and strands there are.
 #[tactic(auto, using(crate::proofs::Tests::tests), unfolding(model::specs::Reading::read_ST))]
-pub fn read_strand(terms: u8, strands: u8, rest: &[u8]) -> Result<Record, Reason>
+pub fn read_strand(terms: usize, strands: usize, rest: &[u8]) -> Result<Record, Reason>
     ensures { Reads result rest.now (read_ST terms strands rest.now) }
 {
-    if MOST_STRANDS <= usize::from(strands) {
+    if MOST_STRANDS <= strands {
         return Err(Reason::OutOfBounds);
     }
     let [_, _, height, ..] = *rest else {
@@ -196,12 +196,12 @@ fn most(which: Assumed) -> usize
 
 // A NO or UO record: it is told how many of its kind there are.
 #[tactic(auto, using(crate::proofs::Tests::tests), unfolding(model::specs::Reading::read_atom))]
-pub fn read_atom(table: &[u8], which: Assumed, there: u8, rest: &[u8]) -> Result<Record, Reason>
+pub fn read_atom(table: &[u8], which: Assumed, there: usize, rest: &[u8]) -> Result<Record, Reason>
     requires { Filled table.now }
     ensures { Reads result rest.now
         (read_atom (most which) (atom_record which) (rows_in table.now) there rest.now) }
 {
-    if most(which) <= usize::from(there) {
+    if most(which) <= there {
         return Err(Reason::OutOfBounds);
     }
     let [_, _, atom, ..] = *rest else {

@@ -5,7 +5,7 @@ ghost use Rattle.model.specs.Lists.{upto};
 ghost use Rattle.model.specs.Says.{node_of};
 ghost use Rattle.model.specs.Reading.{event_at, event_in, with_strand, with_order};
 ghost use Rattle.tables.specs.Layout.{skeleton_count, block, strand_count, order_count, heights, orders, block_size, table_size};
-ghost use Rattle.tables.specs.Tables.{byte, node_at, skeleton_at, skeleton_in, Block, Filled};
+ghost use Rattle.tables.specs.Tables.{byte, node_at, atoms_at, skeleton_at, skeleton_in, Block, Filled};
 ghost use Rattle.tables.specs.Nodes.{direction_at, message_at, Low, EventIs};
 ghost use Rattle.tables.specs.Assumed.{assumed, count_place, atoms_place, with_atom};
 ghost use Rattle.tables.specs.Stores.{event_said, EventsPut, HasRoom, Redrawn, Begun, Emptied};
@@ -103,17 +103,28 @@ pub fn atoms_in(table: &[u8], block: usize, which: Assumed) -> u8
     table[block + which.count_place()]
 }
 
+// The set of the `count` atoms whose bytes begin at `at`.
+pub fn atoms_from(table: &[u8], at: usize, count: u8) -> TermSet
+    requires { at + count ≤ length table.now }
+    ensures { IsSetOf (atoms_at count table.now at) result }
+{
+    let mut set = TermSet::EMPTY;
+    for atom in &table[at..at + usize::from(count)] {
+        set.insert(Term(*atom));
+    }
+    set
+}
+
 // The set of the atoms of these.
 pub fn atoms(table: &[u8], block: usize, which: Assumed) -> TermSet
     requires { (length table.now ≡ table_size) × Block table.now block × (block + block_size ≤ table_size) }
     ensures { IsSetOf (assumed which (skeleton_at table.now block)) result }
 {
-    let at = block + which.atoms_place();
-    let mut set = TermSet::EMPTY;
-    for atom in &table[at..at + usize::from(atoms_in(table, block, which))] {
-        set.insert(Term(*atom));
-    }
-    set
+    atoms_from(
+        table,
+        block + which.atoms_place(),
+        atoms_in(table, block, which),
+    )
 }
 
 // How many events a strand has.

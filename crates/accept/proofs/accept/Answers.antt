@@ -1,5 +1,4 @@
 -- `accept::accept` meets its contract. Assumes nothing.
-use borrow.Author.Rules.{rules}
 use Rattle.std.proofs.lemmas.Grind.{merely}
 use Rattle.std.proofs.lemmas.Result.{err_from_is_err_and}
 use Rattle.model.specs.Judging.{unread, judged}
@@ -18,27 +17,27 @@ returns-in-Err c = unread c.in-Err.ensures.reads
 
 pub invariant_of-result : goal.invariant_of-result
 invariant_of-result c =
-    let (accepted, inverted) = c.in_ok-inverses.ensures in
-    let held : Held c.args.bytes.now c.read_sheet.new.table c.in_ok-inverses.inverses.of =
+    let (accepted, inverted, long) = c.in_ok-accept_terms.ensures in
+    let held : Held c.args.bytes.now _ _ =
     record {
       verdict = judged c.in_default.ensures.reads accepted;
       filled = c.in_default.ensures.filled;
       inverted = inverted;
-      inverses_long = search rules;
+      inverses_long = long;
     } in
     record { stored = merely (held_stored held) }
 
-pub returns-in_err-inverses : goal.returns-in_err-inverses
-returns-in_err-inverses c =
+pub returns-in_err-accept_terms : goal.returns-in_err-accept_terms
+returns-in_err-accept_terms c =
     let p = err_from_is_err_and c.from_residual.result c.from_residual.ensures.1 in
-    rw (p.1, p.2) (judged c.in_default.ensures.reads c.in_err-inverses.ensures)
+    rw (p.1, p.2) (judged c.in_default.ensures.reads c.in_err-accept_terms.ensures)
 
 pub returns : goal.returns
 returns c =
-    let (accepted, inverted) = c.in_ok-inverses.ensures in
+    let (accepted, inverted, long) = c.in_ok-accept_terms.ensures in
     record {
       verdict = judged c.in_default.ensures.reads accepted;
       filled = c.in_default.ensures.filled;
       inverted = inverted;
-      inverses_long = search rules;
+      inverses_long = long;
     }

@@ -3,5 +3,5 @@ use native.Mathlib.Omega.{arith}
 use Rattle.bench.proofs.MapLines.{part_line}
 use Rattle.bench.proofs.put_map.Goals as goal
 
-pub returns : goal.returns
-returns c = part_line c.args.space.now c.args.from c.args.n (omega arith) c.map_line.ensures
+pub returns-clause-text : goal.returns-clause-text
+returns-clause-text c = part_line c.args.space.now c.args.from c.args.n (omega arith) c.map_line.ensures.text

@@ -17,7 +17,7 @@ returns-in-Some c =
     first_from_Range _ _ _ c.find.result (Lacking rows) (λ i. ¬ Lacking rows i) c.find.ensures.ran
     (λ i q k. search (rules, tests)) (λ i q k. search (rules, tests)) in
     let found = rw c.in-Some.is at first in
-    lacks found.2 (λ j h. found.3 j (omega arith) h)
+    (lacks found.2 (λ j h. found.3 j (omega arith) h), c.rows.ensures.long)
 
 pub returns-in-None : goal.returns-in-None
 returns-in-None c =
@@ -25,6 +25,7 @@ returns-in-None c =
     let first =
     first_from_Range _ _ _ c.find.result (Lacking rows) (λ i. ¬ Lacking rows i) c.find.ensures.ran
     (λ i q k. search (rules, tests)) (λ i q k. search (rules, tests)) in
-    let none = rw c.in-None.is at first in
-    all_paired c.args.table.now _ c.requires.1 (omega (arith, c.terms_in.ensures)) (λ j h. none j (omega arith) h)
-    c.of_rows-inverses.ensures
+    let none = rw c.in-None.is at first in (
+      all_paired c.args.table.now _ c.requires.1 (omega (arith, c.terms_in.ensures)) (λ j h. none j (omega arith) h) c.rows.ensures,
+      c.rows.ensures.long,
+    )

@@ -5,12 +5,14 @@ use Rattle.model.specs.Says.{sheet_says, counts_of, refusal_of}
 use Rattle.lines.proofs.Puts.{line_of_two, line_of_three}
 use Rattle.lines.proofs.sheet_line.Goals as goal
 
-pub returns-in-Ok : goal.returns-in-Ok
+pub returns-in-Ok-clause-text : goal.returns-in-Ok-clause-text
 unfolding ascii sheet_line sheet_says counts_of
-returns-in-Ok c = rw c.in-Ok.is (line_of_two c.put_large.ensures c.put_large-in-Ok.ensures c.put.ensures (omega arith))
+returns-in-Ok-clause-text c =
+    rw c.in-Ok.is (line_of_two c.put_large.ensures.text c.put_large-in-Ok.ensures.text c.put.ensures.text (omega arith))
 
-pub returns-in-Err : goal.returns-in-Err
+pub returns-in-Err-clause-text : goal.returns-in-Err-clause-text
 unfolding ascii sheet_line sheet_says refusal_of
-returns-in-Err c =
+returns-in-Err-clause-text c =
     rw (c.in-Err.is, ← c.from.ensures)
-    (line_of_three c.put_small.ensures c.put_large-in-Err.ensures c.put_small-in-Err.ensures c.put-in-Err.ensures (omega arith))
+    (line_of_three c.put_small.ensures.text c.put_large-in-Err.ensures.text c.put_small-in-Err.ensures.text
+    c.put-in-Err.ensures.text (omega arith))

@@ -1,8 +1,12 @@
 -- `mapping::map` meets its contract. Assumes nothing.
 use native.Mathlib.Omega.{arith}
 use Rattle.model.specs.Says.{map_says, mapping_of}
-use Rattle.mapping.proofs.Asking.{lacks_one, short_room, rule_broken, is_a_map}
+use Rattle.accept.proofs.Known.{stored_of}
+use Rattle.mapping.proofs.Asking.{sides_asked, prepared_for, lacks_one, short_room, rule_broken, is_a_map}
 use Rattle.mapping.proofs.map.Goals as goal
+
+pub prepare-prepared-requires : goal.prepare-prepared-requires
+prepare-prepared-requires c = sides_asked (stored_of c.args.sheet.stored) c.requires c.in-Some.ensures
 
 pub returns-in_default : goal.returns-in_default
 unfolding map_says
@@ -17,10 +21,14 @@ pub returns-in-Err : goal.returns-in-Err
 unfolding map_says mapping_of
 returns-in-Err c =
     let q = c.in-Some.ensures in
-    rule_broken _ _ _ _ _ q.there (omega arith) (rw (q.table, q.from, q.to) at c.in-Err.ensures.0)
+    let g = c.prepare-prepared.ensures in
+    let p = prepared_for q g.prepared g.table g.source g.target in
+    rule_broken _ _ _ _ _ q.there (omega arith) (rw (p.table, p.from, p.to) at c.in-Err.ensures.0)
 
 pub returns : goal.returns
 unfolding map_says mapping_of
 returns c =
     let q = c.in-Some.ensures in
-    is_a_map _ _ _ _ _ q.there (omega arith) (rw (q.table, q.from, q.to) at c.in_default-judge_map.ensures.0) c.write_images.ensures
+    let g = c.prepare-prepared.ensures in
+    let p = prepared_for q g.prepared g.table g.source g.target in
+    is_a_map _ _ _ _ _ q.there (omega arith) (rw (p.table, p.from, p.to) at c.in_default-judge_map.ensures.0) c.write_images.ensures

@@ -14,19 +14,19 @@ returns-in_default c = none_such _ (λ D g. c.in_default.ensures D g.reception) 
 pub returns-then-terms_in-term : goal.returns-then-terms_in-term
 unfolding AskDerivable yes_no_says
 returns-then-terms_in-term c =
-    none_such _ (term_missing c.args.sheet.now.table (omega (arith, c.terms_in.ensures))) c.no_such-then-terms_in-term.ensures
+    none_such _ (term_missing c.args.sheet.table.now (omega (arith, c.terms_in.ensures))) c.no_such-then-terms_in-term.ensures
 
 pub reached_before-requires : goal.reached_before-requires
 reached_before-requires c =
     let a = c.args in
     let skeleton = c.in-Some.skeleton in
     let (e, b, h) = c.in-Some.ensures in (
-      is_ready a.sheet.now.table a.skeleton skeleton e b (stored_of a.sheet.now.stored) h.drawing c.precedence-before.ensures,
-      reception_low a.sheet.now.table a.skeleton skeleton e b (node_of a.node) h,
+      is_ready a.sheet.table.now a.skeleton skeleton e b (stored_of a.sheet.stored) h.drawing c.precedence.ensures,
+      reception_low a.sheet.table.now a.skeleton skeleton e b (node_of a.node) h,
     )
 
 pub returns : goal.returns
 returns c =
     let (e, b, h) = c.in-Some.ensures in
-    let there = with_term c.args.sheet.now.table h (omega (arith, c.terms_in.ensures)) in
+    let there = with_term c.args.sheet.table.now h (omega (arith, c.terms_in.ensures)) in
     rw c.has.ensures (derivable_said there (rw (e, b) at c.reached_before.ensures))

@@ -15,8 +15,8 @@ count_reached-requires c =
     let a = c.args in
     let skeleton = c.in-Some.skeleton in
     let (e, b, h) = c.in-Some.ensures in (
-      is_ready a.sheet.now.table a.skeleton skeleton e b (stored_of a.sheet.now.stored) h.drawing c.precedence-before.ensures,
-      reception_low a.sheet.now.table a.skeleton skeleton e b (node_of a.node) h,
+      is_ready a.sheet.table.now a.skeleton skeleton e b (stored_of a.sheet.stored) h.drawing c.precedence.ensures,
+      reception_low a.sheet.table.now a.skeleton skeleton e b (node_of a.node) h,
     )
 
 pub returns : goal.returns

@@ -13,8 +13,8 @@ returns-in_default c = none_such _ (rw c.in_default.is at c.skeleton.ensures) c.
 pub first_open-requires : goal.first_open-requires
 first_open-requires c =
     let (e, b, h) = c.in-Some.ensures in
-    is_ready c.args.sheet.now.table c.args.skeleton c.in-Some.skeleton e b (stored_of c.args.sheet.now.stored) h
-    c.precedence-before.ensures
+    is_ready c.args.sheet.table.now c.args.skeleton c.in-Some.skeleton e b (stored_of c.args.sheet.stored) h
+    c.precedence.ensures
 
 pub returns : goal.returns
 returns c =

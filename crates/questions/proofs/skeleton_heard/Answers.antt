@@ -19,7 +19,7 @@ returns-in_default c =
       | in_default-via-in-Some+in_default w ↦ search rules
       | in_default-via-in_default w ↦ search rules
     ] in
-    nothing_heard a.sheet.now.table a.skeleton c.in_ok-skeleton.skeleton e b (node_of a.node)
+    nothing_heard a.sheet.table.now a.skeleton c.in_ok-skeleton.skeleton e b (node_of a.node)
     (not_received c.event_at.result other c.event_at.ensures)
 
 pub returns : goal.returns
@@ -27,4 +27,4 @@ returns c =
     let a = c.args in
     let (e, b, h) = c.in_ok-skeleton.ensures in
     let at = is_received (rw c.in-Some-Reception.field-0-is at c.in-Some-Reception.ensures) in
-    (e, b, heard_there a.sheet.now.table a.skeleton c.in_ok-skeleton.skeleton e b (node_of a.node) h at)
+    (e, b, heard_there a.sheet.table.now a.skeleton c.in_ok-skeleton.skeleton e b (node_of a.node) h at)

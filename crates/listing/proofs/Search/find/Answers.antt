@@ -7,7 +7,7 @@ use Rattle.listing.proofs.Search.find.Goals as goal
 use Rattle.listing.proofs.Search.find.Goals.{then-is_map, else-is_map}
 
 pub loop-c-init : goal.loop-c-init
-loop-c-init c = marked_none c.none-found.ensures
+loop-c-init c = marked_none c.clear.ensures
 
 pub loop-c-preserved : goal.loop-c-preserved
 loop-c-preserved c =

@@ -1,24 +1,23 @@
 -- `mapping::prepared::prepare` meets its contract. Assumes nothing.
-use mathlib.Core.Path.{◌∙◌}
-use Rattle.accept.proofs.Known.{stored_of}
-use Rattle.mapping.proofs.Asking.{is_asked}
+use mathlib.Core.Path.{refl}
 use Rattle.mapping.proofs.prepared.prepare.Goals as goal
 
-pub of-requires : goal.of-requires
-of-requires c =
-    let from = c.in_ok-from.ensures in
-    let to = c.in_ok-to.ensures in
-    rw (from.1, to.1) (is_asked (stored_of c.args.sheet.now.stored) c.requires from.2 to.2)
+pub fill-requires : goal.fill-requires
+fill-requires c =
+    let a = c.requires in
+    (a.target.filled, a.target.block, a.target.inside, a.ordered)
 
 pub returns : goal.returns
 returns c =
-    let from = c.in_ok-from.ensures in
-    let to = c.in_ok-to.ensures in
-    let given = c.of.ensures in
+    let a = c.requires in
     record {
-      prepared = given.prepared;
-      table = given.table;
-      from = given.source ∙ from.1;
-      to = given.target ∙ to.1;
-      there = record { from = from.2; to = to.2 };
+      prepared = record {
+        asked = a;
+        matrix = c.fill.ensures;
+        source_atoms = rw (c.from.ensures.0, c.from.ensures.1) at c.fill-2.ensures;
+        target_atoms = rw (c.to.ensures.0, c.to.ensures.1) at c.fill-3.ensures;
+      };
+      table = refl;
+      source = refl;
+      target = refl;
     }

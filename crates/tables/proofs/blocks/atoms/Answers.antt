@@ -1,20 +1,8 @@
--- `tables::blocks::atoms` meets its contract: the loop's set has the atoms that were passed. Assumes nothing.
-use Rattle.std.proofs.Common.{◌≡◌, ◌+◌, ◌-◌, ◌<◌, rules}
-use Rattle.std.proofs.lemmas.List.{get_or-take, get_or-drop}
-use Rattle.tables.proofs.Listed.{atoms_none, atoms_more, assumed_atoms}
+-- `tables::blocks::atoms` meets its contract: the atoms of a skeleton are those that its block counts. Assumes nothing.
+use Rattle.tables.proofs.Listed.{assumed_atoms}
 use Rattle.tables.proofs.blocks.atoms.Goals as goal
-
-pub loop-atom-init : goal.loop-atom-init
-loop-atom-init c = atoms_none _ _
-
-pub loop-atom-preserved : goal.loop-atom-preserved
-loop-atom-preserved c =
-    let at = c.args.block + c.atoms_place.result in
-    let inside : c.loop-atom.atom-index < at + c.from.result - at = search rules in
-    let made = rw (get_or-take _ _ _ _ inside, get_or-drop, c.atoms_place.ensures) at c.insert.ensures.at in
-    atoms_more c.args.table.now _ c.loop-atom.atom-index c.loop-atom.invariant made
 
 pub returns : goal.returns
 returns c =
-    let end : c.loop-atom.atom-index ≡ c.atoms_in.result = search rules in
-    rw (assumed_atoms c.args.table.now c.args.block c.args.which) (rw (end, c.atoms_in.ensures) at c.loop-atom.invariant)
+    rw (assumed_atoms c.args.table.now c.args.block c.args.which)
+    (rw (c.atoms_place.ensures, c.atoms_in.ensures) at c.atoms_from.ensures)

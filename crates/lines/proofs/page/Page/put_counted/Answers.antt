@@ -3,5 +3,5 @@ use native.Mathlib.Omega.{arith}
 use Rattle.lines.proofs.Puts.{put_after, counted}
 use Rattle.lines.proofs.page.Page.put_counted.Goals as goal
 
-pub returns : goal.returns
-returns c = counted (omega arith) (put_after c.put.ensures c.put_number.ensures)
+pub returns-clause-text : goal.returns-clause-text
+returns-clause-text c = counted (omega arith) (put_after c.put.ensures.text c.put_number.ensures.text)

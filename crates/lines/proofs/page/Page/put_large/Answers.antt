@@ -7,5 +7,5 @@ use Rattle.lines.proofs.page.Page.put_large.Goals as goal
 pub put_counted-requires : goal.put_counted-requires
 put_counted-requires c = omega (arith, word_digits c.args.n (omega arith))
 
-pub returns : goal.returns
-returns c = counted (word_digits c.args.n (omega arith)) c.put_counted.ensures.put
+pub returns-clause-text : goal.returns-clause-text
+returns-clause-text c = counted (word_digits c.args.n (omega arith)) c.put_counted.ensures.text.put

@@ -7,5 +7,5 @@ use Rattle.lines.proofs.page.Page.put_small.Goals as goal
 pub put_counted-requires : goal.put_counted-requires
 put_counted-requires c = rw c.from.ensures (omega (arith, byte_digits c.args.n (omega arith)))
 
-pub returns : goal.returns
-returns c = counted (byte_digits c.args.n (omega arith)) (rw c.from.ensures at c.put_counted.ensures.put)
+pub returns-clause-text : goal.returns-clause-text
+returns-clause-text c = counted (byte_digits c.args.n (omega arith)) (rw c.from.ensures at c.put_counted.ensures.text.put)
